@@ -1,0 +1,3 @@
+pub mod Children
+pub mod Walk
+pub mod Looks
