@@ -1,15 +1,17 @@
 -- What upper layers may know of the header. Assumes nothing.
-use Prim.Native.Nat.{ℕ, _≤_}
+use Prim.Native.Nat.{ℕ, _+_, _≤_, _<_}
 use mathlib.Core.Path.{_≡_, refl, sym, ap, _∙_}
 use mathlib.Core.Bool.{Bool, true, _&&_}
 use mathlib.Core.Logic.{_↔_}
 use mathlib.Core.List.{List, [], _∷_}
-use native.Mathlib.Nat.{le-refl}
+use native.Mathlib.Nat.{le-refl, zero-add}
+use native.Mathlib.Omega.{arith}
 use lib.Dec.{eqb, leb}
 use lib.ListN.{length}
 use borrow.Author.Tests.{leb-true, eqb-true, le-leb, eq-eqb}
 use Rattle.laws.proofs.Tests.{and-both, both-and}
-use Rattle.le.specs.Bytes.{byte, field, part}
+use Rattle.le.specs.Bytes.{littleEndian, byte, field, part}
+use Rattle.le.proofs.FieldLaws.{part-part, byte-part}
 use Rattle.crc.specs.Checksum.{checksum}
 use Rattle.refusal.specs.declared.Refusal.{Refusal}
 use Rattle.refusal.specs.declared.Verdict.the-variants.{Accepted, Refused}
@@ -89,3 +91,48 @@ header-first-fault image r = refused-exactly (headerRules image) r
 -- an accepted image has a whole header
 pub header-length : (image : List ℕ) → headerFits image ≡ Accepted → 564 ≤ length image
 header-length image e = header-exactly image .0 e .length-low
+
+-- images that agree in length and in their first 564 bytes have the same header
+module _ (one other : List ℕ) (same : part one 0 564 ≡ part other 0 564) where
+  part-agrees : (place size : ℕ) → place + size ≤ 564 → part one place size ≡ part other place size
+  part-agrees place size h =
+      ap (λ (k : ℕ). part one k size) (sym (zero-add place)) ∙ sym (part-part one 0 564 place size h)
+      ∙ ap (λ (s : List ℕ). part s place size) same
+      ∙ part-part other 0 564 place size h ∙ ap (λ (k : ℕ). part other k size) (zero-add place)
+
+  byte-agrees : (place : ℕ) → place < 564 → byte one place ≡ byte other place
+  byte-agrees place h =
+      ap (byte one) (sym (zero-add place)) ∙ sym (byte-part one 0 564 place h)
+      ∙ ap (λ (s : List ℕ). byte s place) same
+      ∙ byte-part other 0 564 place h ∙ ap (byte other) (zero-add place)
+
+pub field-agrees : (one other : List ℕ) (place width : ℕ) → part one 0 564 ≡ part other 0 564 → place + width ≤ 564
+    → field one place width ≡ field other place width
+unfolding field
+field-agrees one other place width same h = ap littleEndian (part-agrees one other same place width h)
+
+pub end-agrees : (one other : List ℕ) → length one ≡ length other → part one 0 564 ≡ part other 0 564 → fileEnd one ≡ fileEnd other
+unfolding fileEnd
+end-agrees one other e same = e
+
+pub header-agrees : (one other : List ℕ) → length one ≡ length other → part one 0 564 ≡ part other 0 564 → headerFits one ≡ headerFits other
+unfolding headerFits markRules sealRules lengthFits magicFits clientFits versionFits checksumFits sentinelFits encodingFits
+header-agrees one other e same =
+    let b = byte-agrees one other same in
+    let f : (place width : ℕ) → place + width ≤ 564 → field one place width ≡ field other place width = λ place width h. field-agrees one other place width same h in
+    rw (
+      e,
+      b 0 (omega arith),
+      b 1 (omega arith),
+      b 2 (omega arith),
+      b 3 (omega arith),
+      b 8 (omega arith),
+      b 9 (omega arith),
+      b 512 (omega arith),
+      b 513 (omega arith),
+      f 10 2 (omega arith),
+      f 4 4 (omega arith),
+      f 524 4 (omega arith),
+      part-agrees one other same 8 471 (omega arith),
+      part-agrees one other same 8 516 (omega arith),
+    )

@@ -128,7 +128,7 @@ pub keys-of-entries : (L : Layout) (g : List ℕ) → keysOf (shape L (levelOf L
 unfolding keysOf keyOf keyIn entries shape
 keys-of-entries L g = refl
 
-climbing : (o : Order) → climbs o ≡ true → o ≡ Climbing
+pub climbing : (o : Order) → climbs o ≡ true → o ≡ Climbing
 unfolding climbs
 climbing Climbing e = refl
 climbing (Unordered i) e = cc
