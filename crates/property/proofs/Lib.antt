@@ -1,0 +1,4 @@
+pub mod RootLaws
+pub mod RecordLaws
+pub mod StepLaws
+pub mod ScanLaws

@@ -1,0 +1,173 @@
+-- The records of an item, one at a time, and the children they name. Assumes nothing.
+use Prim.Native.Nat.{ℕ, zero, suc, _+_, _*_, _-_, _/_, _%_, _≤_, _<_}
+use mathlib.Core.Path.{_≡_, refl, sym, ap, ap₂, _∙_}
+use mathlib.Core.Option.{Option, none, some}
+use mathlib.Core.List.{List, [], _∷_, map}
+use native.Mathlib.Nat.{add-zero, zero-add, div-mul-le-self}
+use native.Mathlib.Numerals.{add-one}
+use native.Mathlib.Omega.{arith}
+use lib.ListN.{length, take, drop}
+use Rattle.le.specs.Bytes.{field}
+use Rattle.keys.specs.declared.End.{End}
+use Rattle.keys.specs.declared.End.the-variants.{Before}
+use Rattle.keys.specs.declared.Shape.{Shape}
+use Rattle.keys.specs.declared.Seat.{Seat}
+use Rattle.keys.specs.declared.Seat.the-variants.{At, Nowhere}
+use Rattle.keys.specs.Records.{cut, keyOf, records, keysOf, recordAt, keyAt, Holds}
+use Rattle.keys.specs.Search.{lastAtMost, firstEqual, seated, withKey, choice}
+use Rattle.keys.proofs.RecordLaws.{recordsFrom, records-all, records-at, records-none, field-at}
+use Rattle.keys.proofs.SeatLaws.{Sits, sits-there, choice-sits, found-sits, chosen-below, found-below}
+use Rattle.property.specs.declared.Branch.{Branch}
+use Rattle.property.specs.declared.Property.the-variants.{Absent}
+use Rattle.property.specs.Records.{leafShape, indexShape, shapeAt, recordCount, recordsOf, endOf, childOf, childrenOf}
+use Rattle.property.specs.Descent.{low, valueOf, answer}
+use Rattle.property.specs.Steps.{childAt}
+
+-- as many records as the bytes hold lie in the bytes
+pub records-hold : (shape : Shape) (bytes : List ℕ) → shape .width ≤ shape .size → shape .width ≤ 8 → Holds shape (recordCount shape bytes) bytes
+unfolding recordCount
+records-hold shape bytes k w = record { inside = div-mul-le-self (length bytes) (shape .size); key = k; word = w }
+
+-- so many pieces are so many
+length-cut : (n size : ℕ) (bytes : List ℕ) → length (cut n size bytes) ≡ n
+unfolding cut
+length-cut zero size bytes = refl
+length-cut (suc n) size bytes = ap suc (length-cut n size (drop size bytes))
+
+module _ (shape : Shape) (n : ℕ) (bytes : List ℕ) where
+  -- what sits at the i-th seat from the j-th on is the record of that number
+  seated-from : (i j : ℕ) → j + i < n → seated (recordsFrom shape n bytes j) (At i) ≡ some (recordAt shape bytes (j + i))
+  unfolding seated
+  seated-from zero j h = rw (records-at shape n bytes j (omega arith), add-zero)
+  seated-from (suc i) j h =
+      let e : j + suc i ≡ j + 1 + i = omega arith in
+      rw (records-at shape n bytes j (omega arith), e) (seated-from i (j + 1) (omega arith))
+
+  pub record-seated : (i : ℕ) → i < n → seated (records shape n bytes) (At i) ≡ some (recordAt shape bytes i)
+  record-seated i h =
+      ap (λ (rs : List (List ℕ)). seated rs (At i)) (sym (records-all shape n bytes))
+      ∙ seated-from i 0 (omega arith)
+      ∙ ap (λ (k : ℕ). some (recordAt shape bytes k)) (zero-add i)
+
+-- the leaf record that is found
+module _ (bytes : List ℕ) (id : ℕ) where
+  pub leaf-found : (seat : Seat) → seat ≡ firstEqual id (keysOf leafShape (recordCount leafShape bytes) bytes)
+      → seated (recordsOf leafShape bytes) seat ≡ withKey (keyOf leafShape) id (recordsOf leafShape bytes)
+  unfolding keysOf recordsOf
+  leaf-found seat e = ap (seated (recordsOf leafShape bytes)) e ∙ sits-there (found-sits (keyOf leafShape) id (recordsOf leafShape bytes))
+
+  pub leaf-below : (i : ℕ) → At i ≡ firstEqual id (keysOf leafShape (recordCount leafShape bytes) bytes) → i < recordCount leafShape bytes
+  unfolding keysOf records
+  leaf-below i e =
+      let n = recordCount leafShape bytes in
+      let below : i < length (cut n (leafShape .size) bytes) = found-below (keyOf leafShape) id (cut n (leafShape .size) bytes) i (sym e) in
+      rw (length-cut n (leafShape .size) bytes) at below
+
+  pub leaf-at : (i : ℕ) → At i ≡ firstEqual id (keysOf leafShape (recordCount leafShape bytes) bytes)
+      → withKey (keyOf leafShape) id (recordsOf leafShape bytes) ≡ some (recordAt leafShape bytes i)
+  unfolding recordsOf
+  leaf-at i e = sym (leaf-found (At i) e) ∙ record-seated leafShape (recordCount leafShape bytes) bytes i (leaf-below i e)
+
+  pub leaf-none : Nowhere ≡ firstEqual id (keysOf leafShape (recordCount leafShape bytes) bytes)
+      → withKey (keyOf leafShape) id (recordsOf leafShape bytes) ≡ none
+  unfolding seated
+  leaf-none e = sym (leaf-found Nowhere e)
+
+-- what is answered for it, where the bytes are the item
+module _ (block bytes whole : List ℕ) (id : ℕ) (same : bytes ≡ whole) where
+  pub leaf-absent : Nowhere ≡ firstEqual id (keysOf leafShape (recordCount leafShape bytes) bytes)
+      → Absent ≡ answer block (withKey (keyOf leafShape) id (recordsOf leafShape whole))
+  unfolding answer
+  leaf-absent e = rw (← same, leaf-none bytes id e)
+
+  pub leaf-answer : (i type value : ℕ) → At i ≡ firstEqual id (keysOf leafShape (recordCount leafShape bytes) bytes)
+      → type ≡ field bytes (i * 8 + 2) 2 → value ≡ field bytes (i * 8 + 4) 4
+      → valueOf block type value ≡ answer block (withKey (keyOf leafShape) id (recordsOf leafShape whole))
+  unfolding answer leafShape
+  leaf-answer i type value e t v =
+      rw (← same, leaf-at bytes id i e, t, v, field-at leafShape bytes i 2 2 (omega arith), field-at leafShape bytes i 4 4 (omega arith))
+
+-- where a child's range ends
+module _ (to : End) (bytes : List ℕ) (i : ℕ) where
+  pub end-none : recordCount indexShape bytes ≤ i → endOf to (recordsFrom indexShape (recordCount indexShape bytes) bytes i) ≡ to
+  unfolding endOf
+  end-none h = rw (records-none indexShape (recordCount indexShape bytes) bytes i h)
+
+  pub end-next : i < recordCount indexShape bytes
+      → endOf to (recordsFrom indexShape (recordCount indexShape bytes) bytes i) ≡ Before (keyAt indexShape bytes i)
+  unfolding endOf keyAt
+  end-next h = rw (records-at indexShape (recordCount indexShape bytes) bytes i h)
+
+-- the child of a record, read from the item's bytes
+pub child-is : (to end : End) (bytes : List ℕ) (i item from : ℕ) → item ≡ field bytes (i * 6 + 2) 4 → from ≡ keyAt indexShape bytes i
+    → end ≡ endOf to (recordsFrom indexShape (recordCount indexShape bytes) bytes (i + 1))
+    → _≡_ {A = Branch} (record { item = item; range = record { from = from; to = end } }) (childAt to bytes i)
+unfolding childAt childOf keyAt indexShape
+child-is to end bytes i item from ei ef ee = rw (ei, ef, ee, field-at indexShape bytes i 2 4 (omega arith))
+
+-- the child that is chosen
+children-keys : (to : End) (entries : List (List ℕ)) → map low (childrenOf to entries) ≡ map (keyOf indexShape) entries
+unfolding childrenOf childOf
+children-keys to [] = refl
+children-keys to (entry ∷ entries) = ap (λ (ks : List ℕ). keyOf indexShape entry ∷ ks) (children-keys to entries)
+
+length-children : (to : End) (entries : List (List ℕ)) → length (childrenOf to entries) ≡ length entries
+unfolding childrenOf
+length-children to [] = refl
+length-children to (entry ∷ entries) = ap suc (length-children to entries)
+
+module _ (to : End) (bytes : List ℕ) where
+  abbrev count : ℕ
+  count = recordCount indexShape bytes
+
+  child-from : (i j : ℕ) → j + i < count → seated (childrenOf to (recordsFrom indexShape count bytes j)) (At i) ≡ some (childAt to bytes (j + i))
+  unfolding seated childrenOf childAt
+  child-from zero j h = rw (records-at indexShape count bytes j (omega arith), add-zero)
+  child-from (suc i) j h =
+      let e : j + suc i ≡ j + 1 + i = omega arith in
+      rw (records-at indexShape count bytes j (omega arith), e) (child-from i (j + 1) (omega arith))
+
+  child-seated : (i : ℕ) → i < count → seated (childrenOf to (recordsOf indexShape bytes)) (At i) ≡ some (childAt to bytes i)
+  unfolding recordsOf
+  child-seated i h =
+      ap (λ (rs : List (List ℕ)). seated (childrenOf to rs) (At i)) (sym (records-all indexShape count bytes))
+      ∙ child-from i 0 (omega arith)
+      ∙ ap (λ (k : ℕ). some (childAt to bytes k)) (zero-add i)
+
+  module _ (id : ℕ) where
+    seat-is : lastAtMost id (keysOf indexShape count bytes) ≡ lastAtMost id (map low (childrenOf to (recordsOf indexShape bytes)))
+    unfolding keysOf recordsOf
+    seat-is = ap (lastAtMost id) (sym (children-keys to (recordsOf indexShape bytes)))
+
+    child-found : (seat : Seat) → seat ≡ lastAtMost id (keysOf indexShape count bytes)
+        → seated (childrenOf to (recordsOf indexShape bytes)) seat ≡ choice low id (childrenOf to (recordsOf indexShape bytes))
+    child-found seat e =
+        ap (seated (childrenOf to (recordsOf indexShape bytes))) (e ∙ seat-is)
+        ∙ sits-there (choice-sits low id (childrenOf to (recordsOf indexShape bytes)))
+
+    pub child-below : (i : ℕ) → At i ≡ lastAtMost id (keysOf indexShape count bytes) → i < count
+    unfolding recordsOf records
+    child-below i e =
+        let below = chosen-below low id (childrenOf to (recordsOf indexShape bytes)) i (sym (e ∙ seat-is)) in
+        let all : length (childrenOf to (recordsOf indexShape bytes)) ≡ count =
+        length-children to (recordsOf indexShape bytes) ∙ length-cut count (indexShape .size) bytes in
+        omega arith
+
+    pub child-none : Nowhere ≡ lastAtMost id (keysOf indexShape count bytes) → none ≡ choice low id (childrenOf to (recordsOf indexShape bytes))
+    unfolding seated
+    child-none e = child-found Nowhere e
+
+    pub child-chosen : (i : ℕ) → At i ≡ lastAtMost id (keysOf indexShape count bytes)
+        → some (childAt to bytes i) ≡ choice low id (childrenOf to (recordsOf indexShape bytes))
+    child-chosen i e = sym (child-seated i (child-below i e)) ∙ child-found (At i) e
+
+-- the two shapes
+pub shape-index : (levels : ℕ) → (levels ≡ 0 → ⊥) → indexShape ≡ shapeAt levels
+unfolding shapeAt
+shape-index zero h = absurd (h refl)
+shape-index (suc levels) h = refl
+
+pub shape-fair : (levels : ℕ) → (0 < (shapeAt levels) .size) × ((shapeAt levels) .width ≤ (shapeAt levels) .size) × ((shapeAt levels) .width ≤ 8)
+unfolding shapeAt leafShape indexShape
+shape-fair zero = (omega arith, omega arith, omega arith)
+shape-fair (suc levels) = (omega arith, omega arith, omega arith)

@@ -1,0 +1,5 @@
+pub mod Root
+pub mod Records
+pub mod Descent
+pub mod Scan
+pub mod Steps

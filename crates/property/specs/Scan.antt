@@ -1,0 +1,59 @@
+-- The plain scan of a property tree, and what a lookup in a sound one answers. Assumes nothing: these are definitions.
+use Prim.Native.Nat.{ℕ, zero, suc}
+use mathlib.Core.Path.{_≡_}
+use mathlib.Core.Bool.{cond}
+use mathlib.Core.Logic.{_↔_}
+use mathlib.Core.Option.{some}
+use mathlib.Core.List.{List, []}
+use lib.Dec.{eqb}
+use Rattle.le.specs.Bytes.{field}
+use Rattle.refusal.specs.declared.Refusal.{Refusal}
+use Rattle.refusal.specs.declared.Verdict.the-variants.{Accepted}
+use Rattle.keys.specs.declared.End.the-variants.{Open}
+use Rattle.keys.specs.Records.{keyOf}
+use Rattle.keys.specs.Search.{withKey, joined}
+use Rattle.keys.proofs.Climbs.{Climbs}
+use Rattle.keys.proofs.SearchLaws.{All}
+use Rattle.heap.specs.Items.{badItem, Numbered}
+use Rattle.property.specs.declared.Branch.{Branch}
+use Rattle.property.specs.declared.Property.{Property}
+use Rattle.property.specs.declared.Property.the-variants.{Absent, Refused}
+use Rattle.property.specs.Root.{indexLevels, rootItem, rootTest}
+use Rattle.property.specs.Records.{leafShape, branchTest, children, leafRecords}
+use Rattle.property.specs.Descent.{answer, rootBranch, property}
+
+module _ (block : List ℕ) where
+  -- an item so many levels above the leaves obeys the rules with its level and range, and so does every item under it
+  abbrev pub SoundUnder : ℕ → Branch → Type 0
+  SoundUnder zero branch = branchTest block zero branch ≡ Accepted
+  SoundUnder (suc levels) branch =
+      (branchTest block (suc levels) branch ≡ Accepted) × All (λ child. SoundUnder levels child) (children block branch)
+
+  -- the whole property tree is sound
+  pub record SoundTree : Type 0 where
+    pub root : rootTest block ≡ Accepted
+    pub items : (rootItem block ≡ 0 → ⊥) → SoundUnder (indexLevels block) (rootBranch block)
+
+  -- the leaf records under an item, from left to right
+  unfoldable pub leavesUnder : ℕ → Branch → List (List ℕ)
+  leavesUnder zero branch = leafRecords block branch
+  leavesUnder (suc levels) branch = joined (λ child. leavesUnder levels child) (children block branch)
+
+  -- all leaf records of the tree
+  unfoldable pub scan : List (List ℕ)
+  scan = cond (eqb (rootItem block) 0) [] (leavesUnder (indexLevels block) (rootBranch block))
+
+  -- the id of a leaf record
+  abbrev pub idOf : List ℕ → ℕ
+  idOf entry = keyOf leafShape entry
+
+  -- a lookup in a sound tree
+  pub record AsScanned : Type 0 where
+    -- it answers for the leaf record that the plain scan finds
+    pub answers : (id : ℕ) → property block id ≡ answer block (withKey idOf id scan)
+    -- absent exactly when no leaf record has the id
+    pub absent : (id : ℕ) → (property block id ≡ Absent) ↔ All (λ entry. idOf entry ≡ id → ⊥) scan
+    -- refused only with 19, for the value of the record found
+    pub refused : (id : ℕ) (r : Refusal) → property block id ≡ Refused r → r ≡ badItem
+    -- no two leaf records have one id: ids strictly ascend over the whole scan
+    pub ascending : Climbs idOf Open 0 scan
