@@ -133,7 +133,8 @@ pub fn number_fits(block: &[u8], item: u32) -> bool
     ensures { λ r. ⌜ r ≡ numberFits (now (block .entry)) item ⌝ }
 {
     let index = index_of(item);
-    (item % 32 == 0) & (item / 65536 == 0) & (1 <= index) & (index <= item_count(block))
+    let count = item_count(block);
+    (item % 32 == 0) & (item / 65536 == 0) & (1 <= index) & (index <= count)
 }
 
 // Whether the block is a heap and has this item: 18 or 19 where not.

@@ -78,7 +78,7 @@ module _ {C : Type 0} (P : C → Type 0) (low : C → ℕ) (k : ℕ) where
   chosen-has (p ∷ ps) c a e = pick p c (leb (low p) k) (choice low k ps) (a .0) (chosen-has ps c (a .1)) e
 
 -- what is found in the chosen child's list
-pub inChosen : {C A : Type 0} → (A → ℕ) → ℕ → (C → List A) → Option C → Option A
+unfoldable pub inChosen : {C A : Type 0} → (A → ℕ) → ℕ → (C → List A) → Option C → Option A
 inChosen key k list none = none
 inChosen key k list (some c) = withKey key k (list c)
 

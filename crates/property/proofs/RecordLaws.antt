@@ -13,9 +13,10 @@ use Rattle.keys.specs.declared.End.the-variants.{Before}
 use Rattle.keys.specs.declared.Shape.{Shape}
 use Rattle.keys.specs.declared.Seat.{Seat}
 use Rattle.keys.specs.declared.Seat.the-variants.{At, Nowhere}
-use Rattle.keys.specs.Records.{cut, keyOf, records, keysOf, recordAt, keyAt, Holds}
+use Rattle.keys.specs.Records.{keyOf, records, keysOf, recordAt, keyAt, Holds}
 use Rattle.keys.specs.Search.{lastAtMost, firstEqual, seated, withKey, choice}
 use Rattle.keys.proofs.RecordLaws.{recordsFrom, records-all, records-at, records-none, field-at}
+use Rattle.keys.proofs.FoundLaws.{length-records, record-seated}
 use Rattle.keys.proofs.SeatLaws.{Sits, sits-there, choice-sits, found-sits, chosen-below, found-below}
 use Rattle.property.specs.declared.Branch.{Branch}
 use Rattle.property.specs.declared.Property.the-variants.{Absent}
@@ -28,27 +29,6 @@ pub records-hold : (shape : Shape) (bytes : List ℕ) → shape .width ≤ shape
 unfolding recordCount
 records-hold shape bytes k w = record { inside = div-mul-le-self (length bytes) (shape .size); key = k; word = w }
 
--- so many pieces are so many
-length-cut : (n size : ℕ) (bytes : List ℕ) → length (cut n size bytes) ≡ n
-unfolding cut
-length-cut zero size bytes = refl
-length-cut (suc n) size bytes = ap suc (length-cut n size (drop size bytes))
-
-module _ (shape : Shape) (n : ℕ) (bytes : List ℕ) where
-  -- what sits at the i-th seat from the j-th on is the record of that number
-  seated-from : (i j : ℕ) → j + i < n → seated (recordsFrom shape n bytes j) (At i) ≡ some (recordAt shape bytes (j + i))
-  unfolding seated
-  seated-from zero j h = rw (records-at shape n bytes j (omega arith), add-zero)
-  seated-from (suc i) j h =
-      let e : j + suc i ≡ j + 1 + i = omega arith in
-      rw (records-at shape n bytes j (omega arith), e) (seated-from i (j + 1) (omega arith))
-
-  pub record-seated : (i : ℕ) → i < n → seated (records shape n bytes) (At i) ≡ some (recordAt shape bytes i)
-  record-seated i h =
-      ap (λ (rs : List (List ℕ)). seated rs (At i)) (sym (records-all shape n bytes))
-      ∙ seated-from i 0 (omega arith)
-      ∙ ap (λ (k : ℕ). some (recordAt shape bytes k)) (zero-add i)
-
 -- the leaf record that is found
 module _ (bytes : List ℕ) (id : ℕ) where
   pub leaf-found : (seat : Seat) → seat ≡ firstEqual id (keysOf leafShape (recordCount leafShape bytes) bytes)
@@ -57,11 +37,11 @@ module _ (bytes : List ℕ) (id : ℕ) where
   leaf-found seat e = ap (seated (recordsOf leafShape bytes)) e ∙ sits-there (found-sits (keyOf leafShape) id (recordsOf leafShape bytes))
 
   pub leaf-below : (i : ℕ) → At i ≡ firstEqual id (keysOf leafShape (recordCount leafShape bytes) bytes) → i < recordCount leafShape bytes
-  unfolding keysOf records
+  unfolding keysOf
   leaf-below i e =
       let n = recordCount leafShape bytes in
-      let below : i < length (cut n (leafShape .size) bytes) = found-below (keyOf leafShape) id (cut n (leafShape .size) bytes) i (sym e) in
-      rw (length-cut n (leafShape .size) bytes) at below
+      let below : i < length (records leafShape n bytes) = found-below (keyOf leafShape) id (records leafShape n bytes) i (sym e) in
+      rw (length-records leafShape n bytes) at below
 
   pub leaf-at : (i : ℕ) → At i ≡ firstEqual id (keysOf leafShape (recordCount leafShape bytes) bytes)
       → withKey (keyOf leafShape) id (recordsOf leafShape bytes) ≡ some (recordAt leafShape bytes i)
@@ -146,11 +126,11 @@ module _ (to : End) (bytes : List ℕ) where
         ∙ sits-there (choice-sits low id (childrenOf to (recordsOf indexShape bytes)))
 
     pub child-below : (i : ℕ) → At i ≡ lastAtMost id (keysOf indexShape count bytes) → i < count
-    unfolding recordsOf records
+    unfolding recordsOf
     child-below i e =
         let below = chosen-below low id (childrenOf to (recordsOf indexShape bytes)) i (sym (e ∙ seat-is)) in
         let all : length (childrenOf to (recordsOf indexShape bytes)) ≡ count =
-        length-children to (recordsOf indexShape bytes) ∙ length-cut count (indexShape .size) bytes in
+        length-children to (recordsOf indexShape bytes) ∙ length-records indexShape count bytes in
         omega arith
 
     pub child-none : Nowhere ≡ lastAtMost id (keysOf indexShape count bytes) → none ≡ choice low id (childrenOf to (recordsOf indexShape bytes))

@@ -1,7 +1,7 @@
 -- The plain scan of a property tree, and what a lookup in a sound one answers. Assumes nothing: these are definitions.
 use Prim.Native.Nat.{ℕ, zero, suc}
 use mathlib.Core.Path.{_≡_}
-use mathlib.Core.Bool.{cond}
+use mathlib.Core.Bool.{cond, false}
 use mathlib.Core.Logic.{_↔_}
 use mathlib.Core.Option.{some}
 use mathlib.Core.List.{List, []}
@@ -14,13 +14,17 @@ use Rattle.keys.specs.Records.{keyOf}
 use Rattle.keys.specs.Search.{withKey, joined}
 use Rattle.keys.proofs.Climbs.{Climbs}
 use Rattle.keys.proofs.SearchLaws.{All}
-use Rattle.heap.specs.Items.{badItem, Numbered}
+use Rattle.heap.specs.Items.{numberFits, badItem}
 use Rattle.property.specs.declared.Branch.{Branch}
 use Rattle.property.specs.declared.Property.{Property}
 use Rattle.property.specs.declared.Property.the-variants.{Absent, Refused}
 use Rattle.property.specs.Root.{indexLevels, rootItem, rootTest}
 use Rattle.property.specs.Records.{leafShape, branchTest, children, leafRecords}
 use Rattle.property.specs.Descent.{answer, rootBranch, property}
+
+-- the id of a leaf record
+abbrev pub idOf : List ℕ → ℕ
+idOf entry = keyOf leafShape entry
 
 module _ (block : List ℕ) where
   -- an item so many levels above the leaves obeys the rules with its level and range, and so does every item under it
@@ -43,9 +47,12 @@ module _ (block : List ℕ) where
   unfoldable pub scan : List (List ℕ)
   scan = cond (eqb (rootItem block) 0) [] (leavesUnder (indexLevels block) (rootBranch block))
 
-  -- the id of a leaf record
-  abbrev pub idOf : List ℕ → ℕ
-  idOf entry = keyOf leafShape entry
+  -- the scan's record names an item of the heap that is not there: the one refusal that a sound tree leaves
+  pub record WrongValue (id : ℕ) (refusal : Refusal) : Type 0 where
+    pub entry : List ℕ
+    pub found : withKey idOf id scan ≡ some entry
+    pub wrong : numberFits block (field entry 4 4) ≡ false
+    pub number : refusal ≡ badItem
 
   -- a lookup in a sound tree
   pub record AsScanned : Type 0 where
@@ -53,7 +60,7 @@ module _ (block : List ℕ) where
     pub answers : (id : ℕ) → property block id ≡ answer block (withKey idOf id scan)
     -- absent exactly when no leaf record has the id
     pub absent : (id : ℕ) → (property block id ≡ Absent) ↔ All (λ entry. idOf entry ≡ id → ⊥) scan
-    -- refused only with 19, for the value of the record found
-    pub refused : (id : ℕ) (r : Refusal) → property block id ≡ Refused r → r ≡ badItem
-    -- no two leaf records have one id: ids strictly ascend over the whole scan
+    -- refused only for the value of the record found, never for the tree
+    pub refused : (id : ℕ) (refusal : Refusal) → property block id ≡ Refused refusal → WrongValue id refusal
+    -- ids strictly ascend over the whole scan: no two leaf records have one id
     pub ascending : Climbs idOf Open 0 scan

@@ -1,0 +1,70 @@
+-- What a plain scan finds, and which record sits where. Assumes nothing.
+use Prim.Native.Nat.{ℕ, zero, suc, _+_, _<_}
+use mathlib.Core.Path.{_≡_, refl, sym, ap, _∙_}
+use mathlib.Core.Bool.{Bool, true, false}
+use mathlib.Core.Logic.{_↔_}
+use mathlib.Core.Option.{Option, none, some}
+use mathlib.Core.List.{List, [], _∷_}
+use native.Mathlib.Nat.{add-zero, zero-add}
+use native.Mathlib.Omega.{arith}
+use lib.Dec.{eqb}
+use lib.ListN.{length, drop}
+use borrow.Author.Tests.{eqb-false, ne-eqb}
+use Rattle.keys.specs.declared.Shape.{Shape}
+use Rattle.keys.specs.declared.Seat.the-variants.{At}
+use Rattle.keys.specs.Records.{cut, records, recordAt}
+use Rattle.keys.specs.Search.{seated, withKey}
+use Rattle.keys.proofs.RecordLaws.{recordsFrom, records-all, records-at}
+use Rattle.keys.proofs.SearchLaws.{All}
+
+-- a scan finds nothing exactly when nothing has the key
+module _ {A : Type 0} (key : A → ℕ) (k : ℕ) where
+  found-here : (x : A) (xs : List A) → eqb (key x) k ≡ true → withKey key k (x ∷ xs) ≡ some x
+  unfolding withKey
+  found-here x xs e = rw e
+
+  found-later : (x : A) (xs : List A) → eqb (key x) k ≡ false → withKey key k (x ∷ xs) ≡ withKey key k xs
+  unfolding withKey
+  found-later x xs e = rw e
+
+  nothing-has : (xs : List A) → withKey key k xs ≡ none → All (λ x. key x ≡ k → ⊥) xs
+  nothing-has [] e = tt
+  nothing-has (x ∷ xs) e = by (eqb (key x) k) refl (nothing-has xs)
+    where
+      by : (b : Bool) → eqb (key x) k ≡ b → (withKey key k xs ≡ none → All (λ y. key y ≡ k → ⊥) xs)
+          → (key x ≡ k → ⊥) × All (λ y. key y ≡ k → ⊥) xs
+      by true b f = let found = found-here x xs b in let clash : _≡_ {A = ℕ} 0 1 = cc in absurd (omega arith)
+      by false b f = (eqb-false (key x) k b, f (sym (found-later x xs b) ∙ e))
+
+  finds-nothing : (xs : List A) → All (λ x. key x ≡ k → ⊥) xs → withKey key k xs ≡ none
+  unfolding withKey
+  finds-nothing [] a = refl
+  finds-nothing (x ∷ xs) a = rw (ne-eqb (key x) k (a .0)) (finds-nothing xs (a .1))
+
+  pub nothing-exactly : (xs : List A) → (withKey key k xs ≡ none) ↔ All (λ x. key x ≡ k → ⊥) xs
+  nothing-exactly xs = (nothing-has xs, finds-nothing xs)
+
+-- so many records are so many
+length-cut : (n size : ℕ) (bytes : List ℕ) → length (cut n size bytes) ≡ n
+unfolding cut
+length-cut zero size bytes = refl
+length-cut (suc n) size bytes = ap suc (length-cut n size (drop size bytes))
+
+module _ (shape : Shape) (n : ℕ) (bytes : List ℕ) where
+  pub length-records : length (records shape n bytes) ≡ n
+  unfolding records
+  length-records = length-cut n (shape .size) bytes
+
+  -- what sits at the i-th seat from the j-th record on is the record of that number
+  seated-from : (i j : ℕ) → j + i < n → seated (recordsFrom shape n bytes j) (At i) ≡ some (recordAt shape bytes (j + i))
+  unfolding seated
+  seated-from zero j h = rw (records-at shape n bytes j (omega arith), add-zero)
+  seated-from (suc i) j h =
+      let e : j + suc i ≡ j + 1 + i = omega arith in
+      rw (records-at shape n bytes j (omega arith), e) (seated-from i (j + 1) (omega arith))
+
+  pub record-seated : (i : ℕ) → i < n → seated (records shape n bytes) (At i) ≡ some (recordAt shape bytes i)
+  record-seated i h =
+      ap (λ (rs : List (List ℕ)). seated rs (At i)) (sym (records-all shape n bytes))
+      ∙ seated-from i 0 (omega arith)
+      ∙ ap (λ (k : ℕ). some (recordAt shape bytes k)) (zero-add i)
