@@ -1,19 +1,18 @@
 -- An item is accepted exactly when each rule holds, and then lies inside the block. Assumes nothing.
-use Prim.Native.Nat.{ℕ, zero, suc, _+_, _*_, _-_, _≤_, _<_}
+use Prim.Native.Nat.{ℕ, zero, suc, _+_, _-_, _≤_}
 use mathlib.Core.Path.{_≡_, refl, sym, ap, _∙_}
-use mathlib.Core.Bool.{Bool, true, false, _&&_}
-use mathlib.Core.List.{List, [], _∷_, _++_}
+use mathlib.Core.Bool.{true, _&&_}
+use mathlib.Core.List.{List, [], _∷_}
 use mathlib.Core.Logic.{_↔_}
 use native.Mathlib.Omega.{arith}
 use lib.Dec.{leb, eqb}
-use lib.ListN.{length}
 use borrow.Author.Tests.{leb-true, le-leb, eqb-true, eq-eqb}
 use Rattle.laws.proofs.Tests.{and-both, both-and}
 use Rattle.le.proofs.FieldLaws.{part-length}
 use Rattle.refusal.specs.declared.Refusal.{Refusal}
 use Rattle.refusal.specs.declared.Verdict.{Verdict}
 use Rattle.refusal.specs.declared.Verdict.the-variants.{Accepted, Refused}
-use Rattle.refusal.specs.Order.{Rule, rule, demand, after, _then_, inOrder, FirstFault}
+use Rattle.refusal.specs.Order.{rule, demand, after, _then_, inOrder, FirstFault}
 use Rattle.refusal.proofs.OrderLaws.{passes, goes, ends, demanded, then-left, then-right, refused-exactly, in-order-append}
 use Rattle.heap.specs.declared.Span.{Span}
 use Rattle.heap.specs.declared.Span.the-variants.{Within}

@@ -1,12 +1,11 @@
 -- A block is accepted as a heap exactly when each rule holds. Assumes nothing.
-use Prim.Native.Nat.{ℕ, zero, suc, _+_, _*_, _≤_, _<_}
+use Prim.Native.Nat.{ℕ, zero, suc, _+_, _≤_, _<_}
 use mathlib.Core.Path.{_≡_, refl, sym, ap, _∙_, subst}
 use mathlib.Core.Bool.{Bool, true, false, _&&_}
-use mathlib.Core.List.{List, [], _∷_}
+use mathlib.Core.List.{List}
 use mathlib.Core.Logic.{_↔_, _⊎_, inl, inr}
-use native.Mathlib.Numerals.{add-one}
 use native.Mathlib.Omega.{arith}
-use lib.Dec.{leb, eqb}
+use lib.Dec.{leb}
 use lib.ListN.{length}
 use borrow.Author.Tests.{leb-true, leb-false, le-leb, lt-leb, eqb-true, eq-eqb}
 use Rattle.laws.proofs.Tests.{and-both, both-and}
@@ -14,7 +13,7 @@ use Rattle.le.specs.Bytes.{byte}
 use Rattle.refusal.specs.declared.Refusal.{Refusal}
 use Rattle.refusal.specs.declared.Verdict.{Verdict}
 use Rattle.refusal.specs.declared.Verdict.the-variants.{Accepted, Refused}
-use Rattle.refusal.specs.Order.{Rule, demand, after, _then_, inOrder, AllHold, none, both, FirstFault}
+use Rattle.refusal.specs.Order.{demand, after, _then_, inOrder, AllHold, none, both, FirstFault}
 use Rattle.refusal.proofs.OrderLaws.{accepted-exactly, refused-exactly}
 use Rattle.heap.specs.Shape.{mapOffset, itemCount, offset, mapEnd, neverFall, offsetsFit, badShape, shapeRules, heapTest, Heap}
 

@@ -1,12 +1,11 @@
 -- The records of an item, one at a time, and the children they name. Assumes nothing.
-use Prim.Native.Nat.{ℕ, zero, suc, _+_, _*_, _-_, _/_, _%_, _≤_, _<_}
-use mathlib.Core.Path.{_≡_, refl, sym, ap, ap₂, _∙_}
-use mathlib.Core.Option.{Option, none, some}
+use Prim.Native.Nat.{ℕ, zero, suc, _+_, _*_, _-_, _/_, _≤_, _<_}
+use mathlib.Core.Path.{_≡_, refl, sym, ap, _∙_}
+use mathlib.Core.Option.{none, some}
 use mathlib.Core.List.{List, [], _∷_, map}
 use native.Mathlib.Nat.{add-zero, zero-add, div-mul-le-self}
-use native.Mathlib.Numerals.{add-one}
 use native.Mathlib.Omega.{arith}
-use lib.ListN.{length, take, drop}
+use lib.ListN.{length}
 use Rattle.le.specs.Bytes.{field}
 use Rattle.keys.specs.declared.End.{End}
 use Rattle.keys.specs.declared.End.the-variants.{Before}
@@ -17,10 +16,9 @@ use Rattle.keys.specs.Records.{keyOf, records, keysOf, recordAt, keyAt, Holds}
 use Rattle.keys.specs.Search.{lastAtMost, firstEqual, seated, withKey, choice}
 use Rattle.keys.proofs.RecordLaws.{recordsFrom, records-all, records-at, records-none, field-at}
 use Rattle.keys.proofs.FoundLaws.{length-records, record-seated}
-use Rattle.keys.proofs.SeatLaws.{Sits, sits-there, choice-sits, found-sits, chosen-below, found-below}
+use Rattle.keys.proofs.SeatLaws.{sits-there, choice-sits, found-sits, chosen-below, found-below}
 use Rattle.property.specs.declared.Branch.{Branch}
-use Rattle.property.specs.declared.Property.the-variants.{Absent}
-use Rattle.property.specs.Records.{leafShape, indexShape, shapeAt, recordCount, recordsOf, endOf, childOf, childrenOf}
+use Rattle.property.specs.Records.{leafShape, indexShape, idOf, shapeAt, recordCount, recordsOf, endOf, childOf, childrenOf}
 use Rattle.property.specs.Descent.{low, valueOf, answer}
 use Rattle.property.specs.Steps.{childAt}
 
@@ -32,40 +30,36 @@ records-hold shape bytes k w = record { inside = div-mul-le-self (length bytes) 
 -- the leaf record that is found
 module _ (bytes : List ℕ) (id : ℕ) where
   pub leaf-found : (seat : Seat) → seat ≡ firstEqual id (keysOf leafShape (recordCount leafShape bytes) bytes)
-      → seated (recordsOf leafShape bytes) seat ≡ withKey (keyOf leafShape) id (recordsOf leafShape bytes)
+      → seated (recordsOf leafShape bytes) seat ≡ withKey idOf id (recordsOf leafShape bytes)
   unfolding keysOf recordsOf
   leaf-found seat e = ap (seated (recordsOf leafShape bytes)) e ∙ sits-there (found-sits (keyOf leafShape) id (recordsOf leafShape bytes))
 
-  pub leaf-below : (i : ℕ) → At i ≡ firstEqual id (keysOf leafShape (recordCount leafShape bytes) bytes) → i < recordCount leafShape bytes
+  leaf-below : (i : ℕ) → At i ≡ firstEqual id (keysOf leafShape (recordCount leafShape bytes) bytes) → i < recordCount leafShape bytes
   unfolding keysOf
   leaf-below i e =
       let n = recordCount leafShape bytes in
       let below : i < length (records leafShape n bytes) = found-below (keyOf leafShape) id (records leafShape n bytes) i (sym e) in
       rw (length-records leafShape n bytes) at below
 
+  pub leaf-inside : (i : ℕ) → At i ≡ firstEqual id (keysOf leafShape (recordCount leafShape bytes) bytes) → i * 8 + 8 ≤ length bytes
+  unfolding recordCount leafShape
+  leaf-inside i e = let below : i < length bytes / 8 = leaf-below i e in omega arith
+
   pub leaf-at : (i : ℕ) → At i ≡ firstEqual id (keysOf leafShape (recordCount leafShape bytes) bytes)
-      → withKey (keyOf leafShape) id (recordsOf leafShape bytes) ≡ some (recordAt leafShape bytes i)
+      → withKey idOf id (recordsOf leafShape bytes) ≡ some (recordAt leafShape bytes i)
   unfolding recordsOf
   leaf-at i e = sym (leaf-found (At i) e) ∙ record-seated leafShape (recordCount leafShape bytes) bytes i (leaf-below i e)
 
   pub leaf-none : Nowhere ≡ firstEqual id (keysOf leafShape (recordCount leafShape bytes) bytes)
-      → withKey (keyOf leafShape) id (recordsOf leafShape bytes) ≡ none
+      → withKey idOf id (recordsOf leafShape bytes) ≡ none
   unfolding seated
   leaf-none e = sym (leaf-found Nowhere e)
 
--- what is answered for it, where the bytes are the item
-module _ (block bytes whole : List ℕ) (id : ℕ) (same : bytes ≡ whole) where
-  pub leaf-absent : Nowhere ≡ firstEqual id (keysOf leafShape (recordCount leafShape bytes) bytes)
-      → Absent ≡ answer block (withKey (keyOf leafShape) id (recordsOf leafShape whole))
-  unfolding answer
-  leaf-absent e = rw (← same, leaf-none bytes id e)
-
-  pub leaf-answer : (i type value : ℕ) → At i ≡ firstEqual id (keysOf leafShape (recordCount leafShape bytes) bytes)
-      → type ≡ field bytes (i * 8 + 2) 2 → value ≡ field bytes (i * 8 + 4) 4
-      → valueOf block type value ≡ answer block (withKey (keyOf leafShape) id (recordsOf leafShape whole))
-  unfolding answer leafShape
-  leaf-answer i type value e t v =
-      rw (← same, leaf-at bytes id i e, t, v, field-at leafShape bytes i 2 2 (omega arith), field-at leafShape bytes i 4 4 (omega arith))
+-- what a leaf record says
+pub answer-at : (block bytes : List ℕ) (i : ℕ)
+    → valueOf block (field bytes (i * 8 + 2) 2) (field bytes (i * 8 + 4) 4) ≡ answer block (some (recordAt leafShape bytes i))
+unfolding answer leafShape
+answer-at block bytes i = rw (field-at leafShape bytes i 2 2 (omega arith), field-at leafShape bytes i 4 4 (omega arith))
 
 -- where a child's range ends
 module _ (to : End) (bytes : List ℕ) (i : ℕ) where
@@ -125,13 +119,17 @@ module _ (to : End) (bytes : List ℕ) where
         ap (seated (childrenOf to (recordsOf indexShape bytes))) (e ∙ seat-is)
         ∙ sits-there (choice-sits low id (childrenOf to (recordsOf indexShape bytes)))
 
-    pub child-below : (i : ℕ) → At i ≡ lastAtMost id (keysOf indexShape count bytes) → i < count
+    child-below : (i : ℕ) → At i ≡ lastAtMost id (keysOf indexShape count bytes) → i < count
     unfolding recordsOf
     child-below i e =
         let below = chosen-below low id (childrenOf to (recordsOf indexShape bytes)) i (sym (e ∙ seat-is)) in
         let all : length (childrenOf to (recordsOf indexShape bytes)) ≡ count =
         length-children to (recordsOf indexShape bytes) ∙ length-records indexShape count bytes in
         omega arith
+
+    pub child-inside : (i : ℕ) → At i ≡ lastAtMost id (keysOf indexShape count bytes) → i * 6 + 6 ≤ length bytes
+    unfolding recordCount indexShape
+    child-inside i e = let below : i < length bytes / 6 = child-below i e in omega arith
 
     pub child-none : Nowhere ≡ lastAtMost id (keysOf indexShape count bytes) → none ≡ choice low id (childrenOf to (recordsOf indexShape bytes))
     unfolding seated

@@ -1,6 +1,6 @@
 -- In a sound property tree the descent answers as the plain scan of all leaf records. Assumes nothing.
-use Prim.Native.Nat.{ℕ, zero, suc, _%_, _≤_, _<_}
-use mathlib.Core.Path.{_≡_, refl, sym, ap, _∙_, subst}
+use Prim.Native.Nat.{ℕ, zero, suc, _%_}
+use mathlib.Core.Path.{_≡_, refl, sym, ap, _∙_}
 use mathlib.Core.Bool.{Bool, true, false, cond, _&&_}
 use mathlib.Core.Logic.{_↔_}
 use mathlib.Core.Option.{Option, none, some}
@@ -9,21 +9,21 @@ use native.Mathlib.Nat.{le-refl}
 use native.Mathlib.Omega.{arith}
 use lib.Dec.{leb, eqb}
 use lib.ListN.{length}
-use borrow.Author.Tests.{eqb-true, eqb-false, eq-eqb, ne-eqb}
+use borrow.Author.Tests.{eqb-false}
 use Rattle.laws.proofs.Tests.{and-both}
 use Rattle.le.specs.Bytes.{field}
 use Rattle.refusal.specs.declared.Refusal.{Refusal}
 use Rattle.refusal.specs.declared.Verdict.the-variants.{Accepted}
 use Rattle.refusal.specs.Order.{demand, after}
 use Rattle.keys.specs.declared.End.{End}
-use Rattle.keys.specs.declared.End.the-variants.{Open, Before}
+use Rattle.keys.specs.declared.End.the-variants.{Open}
 use Rattle.keys.specs.declared.Range.{Range}
 use Rattle.keys.specs.declared.Shape.{Shape}
 use Rattle.keys.specs.declared.Order.{Order}
 use Rattle.keys.specs.declared.Order.the-variants.{Climbing, Unordered, Outside}
 use Rattle.keys.specs.Records.{keyOf, records, keysOf}
 use Rattle.keys.specs.Range.{ordered}
-use Rattle.keys.specs.Search.{withKey, choice, joined}
+use Rattle.keys.specs.Search.{withKey, choice}
 use Rattle.keys.proofs.Climbs.{Climbs, done, step, keys-climb}
 use Rattle.keys.proofs.SearchLaws.{All, all-map, Tiled, childless, last, more, chosen-has, inChosen, in-chosen, joined-climbs}
 use Rattle.keys.proofs.FoundLaws.{nothing-exactly}
@@ -32,9 +32,9 @@ use Rattle.property.specs.declared.Branch.{Branch}
 use Rattle.property.specs.declared.Property.{Property}
 use Rattle.property.specs.declared.Property.the-variants.{Number, Empty, Item, Subnode, Absent, Refused}
 use Rattle.property.specs.Root.{indexLevels, rootItem}
-use Rattle.property.specs.Records.{leafShape, indexShape, shapeAt, climbing, recordCount, recordsFit, branchTest, recordsOf, endOf, childOf, childrenOf, children, leafRecords}
+use Rattle.property.specs.Records.{leafShape, indexShape, idOf, shapeAt, climbing, recordCount, recordsFit, branchTest, recordsOf, endOf, childOf, childrenOf, children, leafRecords}
 use Rattle.property.specs.Descent.{inPlace, valueOf, answer, low, onward, descent, rootBranch, fromRoot, property}
-use Rattle.property.specs.Scan.{idOf, SoundUnder, SoundTree, leavesUnder, scan, WrongValue, AsScanned}
+use Rattle.property.specs.Scan.{SoundUnder, SoundTree, leavesUnder, scan, WrongValue, AsScanned}
 use Rattle.property.proofs.StepLaws.{branch-fits, descent-leaf, descent-on, property-on}
 
 -- where a child's ids end

@@ -1,20 +1,18 @@
 -- The descent, one item at a time. Assumes nothing.
 use Prim.Native.Nat.{ℕ, zero, suc, _-_}
-use mathlib.Core.Path.{_≡_, refl, sym, ap, _∙_}
-use mathlib.Core.Bool.{Bool, true, false}
-use mathlib.Core.Option.{Option, none, some}
+use mathlib.Core.Path.{_≡_, refl, sym, _∙_}
+use mathlib.Core.Bool.{true, false}
+use mathlib.Core.Option.{Option, some}
 use mathlib.Core.List.{List}
 use native.Mathlib.Omega.{arith}
-use lib.Dec.{eqb}
 use borrow.Author.Tests.{eq-eqb, ne-eqb}
 use Rattle.refusal.specs.declared.Refusal.{Refusal}
 use Rattle.refusal.specs.declared.Verdict.{Verdict}
 use Rattle.refusal.specs.declared.Verdict.the-variants.{Accepted, Refused}
-use Rattle.refusal.specs.Order.{after}
-use Rattle.refusal.proofs.OrderLaws.{passes, breaks, goes, ends, test-goes, test-ends, demanded, then-left, then-right}
+use Rattle.refusal.specs.Order.{after, AllHold, none, both, here, later}
+use Rattle.refusal.proofs.OrderLaws.{goes, ends, accepted-exactly, refused-exactly}
 use Rattle.le.specs.Bytes.{byte, field}
 use Rattle.keys.specs.declared.End.the-variants.{Open}
-use Rattle.keys.specs.Records.{keyOf}
 use Rattle.keys.specs.Search.{withKey, choice}
 use Rattle.heap.specs.Items.{numberFits, Numbered, badItem, itemPart}
 use Rattle.heap.proofs.ItemLaws.{number-exactly}
@@ -22,36 +20,42 @@ use Rattle.property.specs.declared.Branch.{Branch}
 use Rattle.property.specs.declared.Property.{Property}
 use Rattle.property.specs.declared.Property.the-variants.{Absent}
 use Rattle.property.specs.Root.{badTree, indexLevels, rootPart, rootItem, rootTest}
-use Rattle.property.specs.Records.{leafShape, shapeAt, recordsFit, branchTest, recordsOf, children, leafRecords}
+use Rattle.property.specs.Records.{leafShape, idOf, shapeAt, recordsFit, branchRules, branchTest, recordsOf, children, leafRecords}
 use Rattle.property.specs.Descent.{answer, low, onward, descent, rootBranch, fromRoot, property}
 
 -- the test of an item, one rule at a time
 module _ (block : List ℕ) (levels : ℕ) (branch : Branch) where
   pub branch-number : numberFits block (branch .item) ≡ false → branchTest block levels branch ≡ Refused badItem
-  unfolding branchTest
-  branch-number n = test-ends Refused _ _ _ n
+  unfolding branchTest branchRules
+  branch-number n = refused-exactly (branchRules block levels branch) badItem .1 (here n)
 
   pub branch-records : numberFits block (branch .item) ≡ true → recordsFit (shapeAt levels) (branch .range) (itemPart block (branch .item)) ≡ false
       → branchTest block levels branch ≡ Refused badTree
-  unfolding branchTest
-  branch-records n f = test-goes Refused _ _ _ n ∙ breaks _ _ f
+  unfolding branchTest branchRules
+  branch-records n f = refused-exactly (branchRules block levels branch) badTree .1 (later n (here f))
 
   pub branch-accepted : numberFits block (branch .item) ≡ true → recordsFit (shapeAt levels) (branch .range) (itemPart block (branch .item)) ≡ true
       → branchTest block levels branch ≡ Accepted
-  unfolding branchTest
-  branch-accepted n f = test-goes Refused _ _ _ n ∙ passes _ _ f
+  unfolding branchTest branchRules
+  branch-accepted n f = accepted-exactly (branchRules block levels branch) .1 (both n (both f none))
+
+  -- what an accepted item says
+  branch-both : AllHold (branchRules block levels branch)
+      → (numberFits block (branch .item) ≡ true) × (recordsFit (shapeAt levels) (branch .range) (itemPart block (branch .item)) ≡ true)
+  unfolding branchRules
+  branch-both (both n (both f none)) = (n, f)
 
   pub branch-numbered : branchTest block levels branch ≡ Accepted → Numbered block (branch .item)
   unfolding branchTest
-  branch-numbered e = number-exactly block (branch .item) .0 (demanded _ _ (then-left _ _ e))
+  branch-numbered e = number-exactly block (branch .item) .0 (branch-both (accepted-exactly (branchRules block levels branch) .0 e) .0)
 
   pub branch-fits : branchTest block levels branch ≡ Accepted → recordsFit (shapeAt levels) (branch .range) (itemPart block (branch .item)) ≡ true
   unfolding branchTest
-  branch-fits e = demanded _ _ (then-right _ _ e)
+  branch-fits e = branch-both (accepted-exactly (branchRules block levels branch) .0 e) .1
 
 -- what follows the test of an item
 down : List ℕ → ℕ → ℕ → Branch → Property
-down block id zero branch = answer block (withKey (keyOf leafShape) id (leafRecords block branch))
+down block id zero branch = answer block (withKey idOf id (leafRecords block branch))
 down block id (suc levels) branch = onward (λ child. descent block id levels child) (choice low id (children block branch))
 
 descent-is : (block : List ℕ) (id levels : ℕ) (branch : Branch)
@@ -66,7 +70,7 @@ unfolding down
 descent-on block id levels branch e = descent-is block id (suc levels) branch ∙ goes Property.Refused _ _ e
 
 pub descent-leaf : (block : List ℕ) (id : ℕ) (branch : Branch) → branchTest block zero branch ≡ Accepted
-    → descent block id zero branch ≡ answer block (withKey (keyOf leafShape) id (leafRecords block branch))
+    → descent block id zero branch ≡ answer block (withKey idOf id (leafRecords block branch))
 unfolding down
 descent-leaf block id branch e = descent-is block id zero branch ∙ goes Property.Refused _ _ e
 
@@ -76,13 +80,13 @@ module _ (block : List ℕ) (id : ℕ) (branch : Branch) (v : Verdict) where
   under-fault levels r t q = sym (descent-is block id levels branch ∙ ends Property.Refused _ _ r (sym t ∙ q))
 
   pub under-leaf : (levels : ℕ) → levels ≡ 0 → v ≡ branchTest block levels branch → v ≡ Accepted
-      → answer block (withKey (keyOf leafShape) id (recordsOf leafShape (itemPart block (branch .item)))) ≡ descent block id levels branch
+      → answer block (withKey idOf id (recordsOf leafShape (itemPart block (branch .item)))) ≡ descent block id levels branch
   unfolding leafRecords
   under-leaf zero h t q = sym (descent-leaf block id branch (sym t ∙ q))
   under-leaf (suc levels) h t q = absurd (omega arith)
 
   pub under-absent : (levels : ℕ) → (levels ≡ 0 → ⊥) → v ≡ branchTest block levels branch → v ≡ Accepted
-      → none ≡ choice low id (children block branch) → Absent ≡ descent block id levels branch
+      → Option.none ≡ choice low id (children block branch) → Absent ≡ descent block id levels branch
   unfolding onward
   under-absent zero h t q e = absurd (h refl)
   under-absent (suc levels) h t q e = rw (descent-on block id levels branch (sym t ∙ q), ← e)

@@ -7,14 +7,13 @@ use lib.Dec.{eqb}
 use Rattle.le.specs.Bytes.{field}
 use Rattle.refusal.specs.Order.{demand, after}
 use Rattle.keys.specs.declared.End.the-variants.{Open}
-use Rattle.keys.specs.Records.{keyOf}
 use Rattle.keys.specs.Search.{withKey, choice}
 use Rattle.heap.specs.Items.{numberFits, badItem}
 use Rattle.property.specs.declared.Branch.{Branch}
 use Rattle.property.specs.declared.Property.{Property}
 use Rattle.property.specs.declared.Property.the-variants.{Number, Empty, Item, Subnode, Absent, Refused}
 use Rattle.property.specs.Root.{indexLevels, rootItem, rootTest}
-use Rattle.property.specs.Records.{leafShape, branchTest, children, leafRecords}
+use Rattle.property.specs.Records.{idOf, branchTest, children, leafRecords}
 
 -- "Types 2, 3, 4, 0xA, 0xB hold the value in place"
 unfoldable pub inPlace : ℕ → Bool
@@ -44,7 +43,7 @@ onward go (some branch) = go branch
 
 -- "The descent chooses a record as the lookup chooses an entry"; "The descent falls by one level at each step"
 unfoldable pub descent : List ℕ → ℕ → ℕ → Branch → Property
-descent block id zero branch = after Refused (branchTest block zero branch) (answer block (withKey (keyOf leafShape) id (leafRecords block branch)))
+descent block id zero branch = after Refused (branchTest block zero branch) (answer block (withKey idOf id (leafRecords block branch)))
 descent block id (suc levels) branch =
     after Refused (branchTest block (suc levels) branch) (onward (λ child. descent block id levels child) (choice low id (children block branch)))
 

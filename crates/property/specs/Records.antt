@@ -6,7 +6,7 @@ use lib.Dec.{leb, eqb}
 use lib.ListN.{length}
 use Rattle.le.specs.Bytes.{field}
 use Rattle.refusal.specs.declared.Verdict.{Verdict}
-use Rattle.refusal.specs.Order.{demand, _then_}
+use Rattle.refusal.specs.Order.{Rule, rule, inOrder}
 use Rattle.keys.specs.declared.End.{End}
 use Rattle.keys.specs.declared.End.the-variants.{Before}
 use Rattle.keys.specs.declared.Range.{Range}
@@ -25,6 +25,10 @@ leafShape = record { size = 8; width = 2 }
 
 unfoldable pub indexShape : Shape
 indexShape = record { size = 6; width = 2 }
+
+-- the id of a leaf record
+abbrev pub idOf : List ℕ → ℕ
+idOf entry = keyOf leafShape entry
 
 -- the records of an item so many levels above the leaves
 unfoldable pub shapeAt : ℕ → Shape
@@ -46,10 +50,14 @@ recordsFit shape range bytes =
     leb 1 (length bytes) && eqb (length bytes % shape .size) 0 && climbing (ordered range (keysOf shape (recordCount shape bytes) bytes))
 
 -- an item of the tree: 19 for its number, 20 for its shape
+unfoldable pub branchRules : List ℕ → ℕ → Branch → List Rule
+branchRules block levels branch =
+    rule (numberFits block (branch .item)) badItem
+    ∷ rule (recordsFit (shapeAt levels) (branch .range) (itemPart block (branch .item))) badTree
+    ∷ []
+
 unfoldable pub branchTest : List ℕ → ℕ → Branch → Verdict
-branchTest block levels branch =
-    demand (numberFits block (branch .item)) badItem
-    then demand (recordsFit (shapeAt levels) (branch .range) (itemPart block (branch .item))) badTree
+branchTest block levels branch = inOrder (branchRules block levels branch)
 
 -- its records
 unfoldable pub recordsOf : Shape → List ℕ → List (List ℕ)

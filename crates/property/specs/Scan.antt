@@ -10,21 +10,15 @@ use Rattle.le.specs.Bytes.{field}
 use Rattle.refusal.specs.declared.Refusal.{Refusal}
 use Rattle.refusal.specs.declared.Verdict.the-variants.{Accepted}
 use Rattle.keys.specs.declared.End.the-variants.{Open}
-use Rattle.keys.specs.Records.{keyOf}
 use Rattle.keys.specs.Search.{withKey, joined}
 use Rattle.keys.proofs.Climbs.{Climbs}
 use Rattle.keys.proofs.SearchLaws.{All}
 use Rattle.heap.specs.Items.{numberFits, badItem}
 use Rattle.property.specs.declared.Branch.{Branch}
-use Rattle.property.specs.declared.Property.{Property}
 use Rattle.property.specs.declared.Property.the-variants.{Absent, Refused}
 use Rattle.property.specs.Root.{indexLevels, rootItem, rootTest}
-use Rattle.property.specs.Records.{leafShape, branchTest, children, leafRecords}
+use Rattle.property.specs.Records.{idOf, branchTest, children, leafRecords}
 use Rattle.property.specs.Descent.{answer, rootBranch, property}
-
--- the id of a leaf record
-abbrev pub idOf : List ℕ → ℕ
-idOf entry = keyOf leafShape entry
 
 module _ (block : List ℕ) where
   -- an item so many levels above the leaves obeys the rules with its level and range, and so does every item under it

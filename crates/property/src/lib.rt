@@ -8,19 +8,19 @@ use refusal::Fault;
 use refusal::Refusal;
 use refusal::Verdict;
 ghost use mathlib.Core.Path.{_≡_};
-ghost use mathlib.Core.Bool.{true};
-ghost use mathlib.Core.Option.{none, some};
+ghost use mathlib.Core.Option.{some};
 ghost use Prim.Native.Nat.{_+_, _*_, _≤_, _<_};
 ghost use lib.ListN.{length};
-ghost use Rattle.keys.specs.Records.{keyOf, recordAt};
+ghost use Rattle.refusal.specs.Order.{inOrder};
+ghost use Rattle.keys.specs.Records.{recordAt};
 ghost use Rattle.keys.specs.Search.{withKey, choice};
 ghost use Rattle.heap.specs.Shape.{Heap};
 ghost use Rattle.heap.specs.Items.{Numbered, itemPart};
-ghost use Rattle.property.specs.Root.{rootFits, rootTest};
-ghost use Rattle.property.specs.Records.{leafShape, indexShape, shapeAt, climbing, recordsFit, recordCount, recordsOf, branchTest, endOf, childOf, childrenOf, children, leafRecords};
+ghost use Rattle.property.specs.Root.{rootFits, rootRules, rootTest, Rooted};
+ghost use Rattle.property.specs.Records.{leafShape, indexShape, shapeAt, idOf, climbing, recordsFit, recordCount, recordsOf, branchTest, endOf, children};
 ghost use Rattle.property.specs.Descent.{inPlace, valueOf, answer, low, descent, fromRoot, property};
 ghost use Rattle.keys.proofs.RecordLaws.{recordsFrom};
-ghost use Rattle.property.specs.Steps.{chosenIn, childAt, Rooted};
+ghost use Rattle.property.specs.Steps.{chosenIn, childAt};
 
 // A property's type, with its number in place, nothing, or the number of the item or subnode that holds its value.
 pub enum Property {
@@ -55,14 +55,11 @@ fn root_fits(root: &[u8]) -> bool
         & (le::byte_at(root, 3) <= 3)
 }
 
-// What comes before the tree: 18, then 20 for the heap's client kind, 19 and 20 for the user root.
-fn test_root(block: &[u8]) -> Verdict
-    ensures { λ r. ⌜ r ≡ rootTest (now (block .entry)) ⌝ }
+// 20 for the heap's client kind, then 19 and 20 for its user root.
+fn check_root(block: &[u8]) -> Verdict
+    requires { ⌜ Heap (now block) ⌝ }
+    ensures { λ r. ⌜ r ≡ inOrder (rootRules (now (block .entry))) ⌝ }
 {
-    let shape = heap::test_heap(block);
-    let Verdict::Accepted = shape else {
-        return shape;
-    };
     if le::byte_at(block, 3) != 0xBC {
         return refusal::refused_at(Fault::PropertyTree, 0);
     }
@@ -74,6 +71,17 @@ fn test_root(block: &[u8]) -> Verdict
         return refusal::refused_at(Fault::PropertyTree, 0);
     }
     Verdict::Accepted
+}
+
+// All that comes before the tree: 18, then the client kind and the user root.
+fn test_root(block: &[u8]) -> Verdict
+    ensures { λ r. ⌜ r ≡ rootTest (now (block .entry)) ⌝ }
+{
+    let shape = heap::test_heap(block);
+    let Verdict::Accepted = shape else {
+        return shape;
+    };
+    check_root(block)
 }
 
 fn shape_at(levels: usize) -> Shape
@@ -151,9 +159,22 @@ fn value_of(block: &[u8], code: u16, value: u32) -> Property
     Property::Item(code, value)
 }
 
+// What the i-th leaf record says.
+fn property_at(block: &[u8], records: &[u8], i: usize) -> Property
+    requires { ⌜ Heap (now block) × (i * 8 + 8 ≤ length (now records)) ⌝ }
+    ensures { λ r. ⌜ r ≡ answer (now (block .entry)) (some (recordAt leafShape (now (records .entry)) i)) ⌝ }
+{
+    value_of(
+        block,
+        le::field2(records, i * 8 + 2),
+        le::field4(records, i * 8 + 4),
+    )
+}
+
+// What the leaf record with the id says, in an accepted leaf item.
 fn find_in_leaf(block: &[u8], id: u16, item: u32) -> Property
     requires { ⌜ Heap (now block) × Numbered (now block) item ⌝ }
-    ensures { λ r. ⌜ r ≡ answer (now (block .entry)) (withKey (keyOf leafShape) id (recordsOf leafShape (itemPart (now (block .entry)) item))) ⌝ }
+    ensures { λ r. ⌜ r ≡ answer (now (block .entry)) (withKey idOf id (recordsOf leafShape (itemPart (now (block .entry)) item))) ⌝ }
 {
     let records = heap::part_of(block, item);
     let shape = Shape { size: 8, width: 2 };
@@ -161,11 +182,7 @@ fn find_in_leaf(block: &[u8], id: u16, item: u32) -> Property
     let Seat::At(i) = seat else {
         return Property::Absent;
     };
-    value_of(
-        block,
-        le::field2(records, i * 8 + 2),
-        le::field4(records, i * 8 + 4),
-    )
+    property_at(block, records, i)
 }
 
 // Where the range of the child before the i-th index record ends.

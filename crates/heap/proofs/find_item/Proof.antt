@@ -1,4 +1,4 @@
-use mathlib.Core.Path.{_≡_, refl, sym, ap, ap₂, _∙_}
+use mathlib.Core.Path.{sym, _∙_}
 use Rattle.heap.proofs.ItemLaws.{item-exactly, span-taken, span-refused}
 use borrow.Author.Needs.{needs}
 use Rattle.heap.proofs.find_item.Statement.{statement}

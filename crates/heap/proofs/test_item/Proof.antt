@@ -1,4 +1,4 @@
-use mathlib.Core.Path.{_≡_, refl, sym, ap, ap₂, _∙_}
+use mathlib.Core.Path.{sym, _∙_}
 use Rattle.laws.proofs.Tests.{fails, holds}
 use Rattle.refusal.proofs.OrderLaws.{passes, breaks}
 use Rattle.heap.proofs.ShapeLaws.{heap-exactly}

@@ -1,4 +1,3 @@
-use mathlib.Core.Path.{_≡_, refl, sym, ap, ap₂, _∙_}
 use Rattle.property.specs.Records.{indexShape}
 use Rattle.property.proofs.RecordLaws.{child-is}
 use borrow.Author.Needs.{needs}

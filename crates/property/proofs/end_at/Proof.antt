@@ -1,4 +1,4 @@
-use mathlib.Core.Path.{_≡_, refl, sym, ap, ap₂, _∙_}
+use mathlib.Core.Path.{sym, ap, _∙_}
 use Rattle.keys.specs.declared.End.the-variants.{Before}
 use Rattle.property.specs.Records.{recordCount, indexShape}
 use Rattle.property.proofs.RecordLaws.{end-none, end-next}

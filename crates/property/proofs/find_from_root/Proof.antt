@@ -1,4 +1,4 @@
-use mathlib.Core.Path.{_≡_, refl, sym, ap, ap₂, _∙_}
+use mathlib.Core.Path.{_≡_, sym, ap, _∙_}
 use native.Mathlib.Omega.{arith}
 use lib.ListN.{length}
 use Rattle.heap.specs.Items.{itemPart}
@@ -8,6 +8,7 @@ use borrow.Author.Needs.{needs}
 use Rattle.property.proofs.find_from_root.Statement.{statement}
 use Rattle.property.proofs.find_from_root.Tie as tie
 
+-- the part that was read is the user root's record
 root-is : (c : tie.After-part-of) → c .part-of .result .now ≡ rootPart (c .before .before .before .args .block .now)
 unfolding rootPart
 root-is c = c .part-of .ensures ∙ ap (itemPart (c .before .before .before .args .block .now)) (c .before .user-root .ensures)

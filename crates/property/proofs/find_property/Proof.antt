@@ -1,14 +1,9 @@
-use mathlib.Core.Path.{_≡_, refl, sym, ap, ap₂, _∙_}
-use Rattle.property.proofs.RootLaws.{root-heap, root-rooted}
+use mathlib.Core.Path.{sym, _∙_}
+use Rattle.property.proofs.RootLaws.{root-exactly}
 use Rattle.property.proofs.StepLaws.{property-refused, property-on}
 use borrow.Author.Needs.{needs}
 use Rattle.property.proofs.find_property.Statement.{statement}
 use Rattle.property.proofs.find_property.Tie as tie
-
-find-from-root-requires : tie.Need-find-from-root-requires
-find-from-root-requires c κs =
-    let accepted = sym (c .before .before .test-root .ensures) ∙ c .enum-told .given .1 in
-    (root-heap _ accepted, root-rooted _ accepted)
 
 pub find-property-spec : {M : Type 1} → statement M
 find-property-spec =
@@ -17,6 +12,6 @@ find-property-spec =
     (λ c κs. search needs)
     (λ c. search needs)
     (λ c. search needs)
-    find-from-root-requires
+    (λ c κs. root-exactly _ .0 (sym (c .before .before .test-root .ensures) ∙ c .enum-told .given .1))
     (λ c. sym (property-refused _ _ _ (sym (c .before .before .before .test-root .ensures) ∙ c .before .verdict .given .1)))
     (λ c. c .find-from-root .ensures ∙ sym (property-on _ _ (sym (c .before .before .before .test-root .ensures) ∙ c .before .enum-told .given .1))))

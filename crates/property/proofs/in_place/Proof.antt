@@ -1,4 +1,4 @@
-use mathlib.Core.Path.{_≡_, refl, sym, ap, ap₂, _∙_}
+use mathlib.Core.Path.{refl}
 use Rattle.property.specs.Descent.{inPlace}
 use Rattle.property.proofs.in_place.Statement.{statement}
 use Rattle.property.proofs.in_place.Tie as tie

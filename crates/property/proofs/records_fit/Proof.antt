@@ -1,4 +1,9 @@
-use Rattle.property.specs.Records.{recordsFit, recordCount}
+use Prim.Native.Nat.{_%_}
+use mathlib.Core.Path.{ap, _∙_}
+use mathlib.Core.Bool.{Bool, _&&_}
+use lib.Dec.{leb, eqb}
+use lib.ListN.{length}
+use Rattle.property.specs.Records.{climbing, recordsFit, recordCount}
 use Rattle.property.proofs.RecordLaws.{records-hold}
 use borrow.Author.Needs.{needs}
 use Rattle.property.proofs.records_fit.Statement.{statement}
@@ -12,7 +17,10 @@ check-keys-requires c κs =
 
 returns : tie.Need-returns
 unfolding recordsFit recordCount
-returns c = rw (c .is-climbing .ensures, c .before .check-keys .ensures)
+returns c =
+    let a = c .before .before .before .args in
+    let n = length (a .bytes .now) in
+    ap (λ (order : Bool). leb 1 n && eqb (n % a .shape .size) 0 && order) (c .is-climbing .ensures ∙ ap climbing (c .before .check-keys .ensures))
 
 pub records-fit-spec : {M : Type 1} → statement M
 records-fit-spec =
