@@ -125,7 +125,7 @@ module _ (block : List ℕ) (h : Heap block) where
     pub ends-before : offset block (indexOf item + 1) ≤ mapOffset block
     ends-before = omega (arith, last-above, h .last)
 
-    pub item-lies : Lies block item
+    item-lies : Lies block item
     unfolding itemStart itemLength itemPart
     item-lies =
         record {
@@ -134,3 +134,7 @@ module _ (block : List ℕ) (h : Heap block) where
           inside = omega (arith, starts-before, ends-before, h .inside);
           whole = part-length block (offset block (indexOf item)) (offset block (indexOf item + 1) - offset block (indexOf item)) (omega (arith, starts-before, ends-before, h .inside));
         }
+
+-- an accepted item lies inside the block
+pub accepted-lies : (block : List ℕ) (item : ℕ) → itemTest block item ≡ Accepted → Lies block item
+accepted-lies block item e = let both = item-exactly block item .0 e in item-lies block (both .0) item (both .1)

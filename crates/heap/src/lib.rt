@@ -7,7 +7,7 @@ ghost use Prim.Native.Nat.{_+_, _*_, _≤_, _<_};
 ghost use lib.Dec.{leb};
 ghost use lib.ListN.{length};
 ghost use Rattle.le.specs.Bytes.{field};
-ghost use Rattle.heap.specs.Shape.{mapOffset, userRoot, itemCount, offset, mapEnd, neverFall, offsetsFit, heapTest, Heap};
+ghost use Rattle.heap.specs.Shape.{mapOffset, clientKind, userRoot, itemCount, offset, mapEnd, neverFall, offsetsFit, heapTest, Heap};
 ghost use Rattle.heap.specs.Items.{indexOf, numberFits, Numbered, itemTest, itemStart, itemLength, itemPart, itemOr, itemSpan};
 
 // Where an item starts and how long it is.
@@ -56,7 +56,7 @@ fn map_fits(block: &[u8]) -> bool
     map + 4 + 2 * (item_count(block) + 1) <= block.len()
 }
 
-fn offsets_climb(block: &[u8]) -> bool
+fn order_fits(block: &[u8]) -> bool
     requires { ⌜ (12 ≤ length (now block)) × (mapEnd (now block) ≤ length (now block)) ⌝ }
     ensures { λ r. ⌜ r ≡ neverFall (now (block .entry)) (itemCount (now (block .entry))) ⌝ }
 {
@@ -79,7 +79,7 @@ fn offsets_fit(block: &[u8]) -> bool
     ensures { λ r. ⌜ r ≡ offsetsFit (now (block .entry)) ⌝ }
 {
     let count = item_count(block);
-    offsets_climb(block)
+    order_fits(block)
         & (12 <= offset_at(block, 1))
         & (offset_at(block, count + 1) <= map_offset(block))
 }
@@ -113,7 +113,15 @@ pub fn test_heap(block: &[u8]) -> Verdict
     Verdict::Accepted
 }
 
-// The item of the heap's user.
+// What the heap is used for.
+pub fn client_kind(block: &[u8]) -> u8
+    requires { ⌜ 12 ≤ length (now block) ⌝ }
+    ensures { λ r. ⌜ r ≡ clientKind (now (block .entry)) ⌝ }
+{
+    le::byte_at(block, 3)
+}
+
+// The number of the item from which the heap's user starts.
 pub fn user_root(block: &[u8]) -> u32
     requires { ⌜ 12 ≤ length (now block) ⌝ }
     ensures { λ r. ⌜ r ≡ userRoot (now (block .entry)) ⌝ }

@@ -4,18 +4,20 @@ use mathlib.Core.Path.{_≡_, refl, sym, ap, _∙_}
 use mathlib.Core.Bool.{Bool, true, false}
 use mathlib.Core.Logic.{_↔_}
 use mathlib.Core.Option.{none, some}
-use mathlib.Core.List.{List, [], _∷_}
+use mathlib.Core.List.{List, [], _∷_, map}
 use native.Mathlib.Nat.{add-zero, zero-add}
 use native.Mathlib.Omega.{arith}
 use lib.Dec.{eqb}
 use lib.ListN.{length, drop}
 use borrow.Author.Tests.{eqb-false, ne-eqb}
 use Rattle.keys.specs.declared.Shape.{Shape}
-use Rattle.keys.specs.declared.Seat.the-variants.{At}
-use Rattle.keys.specs.Records.{cut, records, recordAt}
-use Rattle.keys.specs.Search.{seated, withKey}
+use Rattle.keys.specs.declared.Seat.{Seat}
+use Rattle.keys.specs.declared.Seat.the-variants.{At, Nowhere}
+use Rattle.keys.specs.Records.{cut, keyOf, records, keysOf, recordAt}
+use Rattle.keys.specs.Search.{lastAtMost, firstEqual, seated, withKey}
 use Rattle.keys.proofs.RecordLaws.{recordsFrom, records-all, records-at}
 use Rattle.keys.proofs.SearchLaws.{All}
+use Rattle.keys.proofs.SeatLaws.{sits-there, found-sits, found-below, chosen-below}
 
 -- a scan finds nothing exactly when nothing has the key
 module _ {A : Type 0} (key : A → ℕ) (k : ℕ) where
@@ -44,6 +46,20 @@ module _ {A : Type 0} (key : A → ℕ) (k : ℕ) where
   pub nothing-exactly : (xs : List A) → (withKey key k xs ≡ none) ↔ All (λ x. key x ≡ k → ⊥) xs
   nothing-exactly xs = (nothing-has xs, finds-nothing xs)
 
+-- what sits in a seat, one seat at a time
+module _ {A : Type 0} where
+  pub seated-nowhere : (xs : List A) → seated xs Nowhere ≡ none
+  unfolding seated
+  seated-nowhere xs = refl
+
+  pub seated-first : (x : A) (xs : List A) → seated (x ∷ xs) (At 0) ≡ some x
+  unfolding seated
+  seated-first x xs = refl
+
+  pub seated-next : (x : A) (xs : List A) (i : ℕ) → seated (x ∷ xs) (At (suc i)) ≡ seated xs (At i)
+  unfolding seated
+  seated-next x xs i = refl
+
 -- so many records are so many
 length-cut : (n size : ℕ) (bytes : List ℕ) → length (cut n size bytes) ≡ n
 unfolding cut
@@ -51,6 +67,10 @@ length-cut zero size bytes = refl
 length-cut (suc n) size bytes = ap suc (length-cut n size (drop size bytes))
 
 module _ (shape : Shape) (n : ℕ) (bytes : List ℕ) where
+  pub keys-are : keysOf shape n bytes ≡ map (keyOf shape) (records shape n bytes)
+  unfolding keysOf
+  keys-are = refl
+
   pub length-records : length (records shape n bytes) ≡ n
   unfolding records
   length-records = length-cut n (shape .size) bytes
@@ -68,3 +88,21 @@ module _ (shape : Shape) (n : ℕ) (bytes : List ℕ) where
       ap (λ (rs : List (List ℕ)). seated rs (At i)) (sym (records-all shape n bytes))
       ∙ seated-from i 0 (omega arith)
       ∙ ap (λ (k : ℕ). some (recordAt shape bytes k)) (zero-add i)
+
+  -- the record in the seat that is found is what the scan finds
+  module _ (k : ℕ) where
+    seat-sits : (seat : Seat) → seat ≡ firstEqual k (keysOf shape n bytes) → seated (records shape n bytes) seat ≡ withKey (keyOf shape) k (records shape n bytes)
+    seat-sits seat e = ap (seated (records shape n bytes)) (e ∙ ap (firstEqual k) keys-are) ∙ sits-there (found-sits (keyOf shape) k (records shape n bytes))
+
+    pub found-inside : (i : ℕ) → At i ≡ firstEqual k (keysOf shape n bytes) → i < n
+    found-inside i e = rw length-records at (found-below (keyOf shape) k (records shape n bytes) i (sym (e ∙ ap (firstEqual k) keys-are)))
+
+    pub record-found : (i : ℕ) → At i ≡ firstEqual k (keysOf shape n bytes) → withKey (keyOf shape) k (records shape n bytes) ≡ some (recordAt shape bytes i)
+    record-found i e = sym (seat-sits (At i) e) ∙ record-seated i (found-inside i e)
+
+    pub record-absent : Nowhere ≡ firstEqual k (keysOf shape n bytes) → withKey (keyOf shape) k (records shape n bytes) ≡ none
+    record-absent e = sym (seat-sits Nowhere e) ∙ seated-nowhere (records shape n bytes)
+
+    -- a record that is chosen is one of them
+    pub chosen-inside : (i : ℕ) → At i ≡ lastAtMost k (keysOf shape n bytes) → i < n
+    chosen-inside i e = rw length-records at (chosen-below (keyOf shape) k (records shape n bytes) i (sym (e ∙ ap (lastAtMost k) keys-are)))

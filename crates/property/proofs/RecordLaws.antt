@@ -12,11 +12,11 @@ use Rattle.keys.specs.declared.End.the-variants.{Before}
 use Rattle.keys.specs.declared.Shape.{Shape}
 use Rattle.keys.specs.declared.Seat.{Seat}
 use Rattle.keys.specs.declared.Seat.the-variants.{At, Nowhere}
-use Rattle.keys.specs.Records.{keyOf, records, keysOf, recordAt, keyAt, Holds}
+use Rattle.keys.specs.Records.{keyOf, keysOf, recordAt, keyAt, Holds}
 use Rattle.keys.specs.Search.{lastAtMost, firstEqual, seated, withKey, choice}
 use Rattle.keys.proofs.RecordLaws.{recordsFrom, records-all, records-at, records-none, field-at}
-use Rattle.keys.proofs.FoundLaws.{length-records, record-seated}
-use Rattle.keys.proofs.SeatLaws.{sits-there, choice-sits, found-sits, chosen-below, found-below}
+use Rattle.keys.proofs.FoundLaws.{seated-nowhere, seated-first, seated-next, keys-are, found-inside, record-found, record-absent, chosen-inside}
+use Rattle.keys.proofs.SeatLaws.{sits-there, choice-sits}
 use Rattle.property.specs.declared.Branch.{Branch}
 use Rattle.property.specs.Records.{leafShape, indexShape, idOf, shapeAt, recordCount, recordsOf, endOf, childOf, childrenOf}
 use Rattle.property.specs.Descent.{low, valueOf, answer}
@@ -29,31 +29,19 @@ records-hold shape bytes k w = record { inside = div-mul-le-self (length bytes) 
 
 -- the leaf record that is found
 module _ (bytes : List ℕ) (id : ℕ) where
-  pub leaf-found : (seat : Seat) → seat ≡ firstEqual id (keysOf leafShape (recordCount leafShape bytes) bytes)
-      → seated (recordsOf leafShape bytes) seat ≡ withKey idOf id (recordsOf leafShape bytes)
-  unfolding keysOf recordsOf
-  leaf-found seat e = ap (seated (recordsOf leafShape bytes)) e ∙ sits-there (found-sits (keyOf leafShape) id (recordsOf leafShape bytes))
-
-  leaf-below : (i : ℕ) → At i ≡ firstEqual id (keysOf leafShape (recordCount leafShape bytes) bytes) → i < recordCount leafShape bytes
-  unfolding keysOf
-  leaf-below i e =
-      let n = recordCount leafShape bytes in
-      let below : i < length (records leafShape n bytes) = found-below (keyOf leafShape) id (records leafShape n bytes) i (sym e) in
-      rw (length-records leafShape n bytes) at below
-
   pub leaf-inside : (i : ℕ) → At i ≡ firstEqual id (keysOf leafShape (recordCount leafShape bytes) bytes) → i * 8 + 8 ≤ length bytes
   unfolding recordCount leafShape
-  leaf-inside i e = let below : i < length bytes / 8 = leaf-below i e in omega arith
+  leaf-inside i e = let below : i < length bytes / 8 = found-inside leafShape (length bytes / 8) bytes id i e in omega arith
 
   pub leaf-at : (i : ℕ) → At i ≡ firstEqual id (keysOf leafShape (recordCount leafShape bytes) bytes)
       → withKey idOf id (recordsOf leafShape bytes) ≡ some (recordAt leafShape bytes i)
   unfolding recordsOf
-  leaf-at i e = sym (leaf-found (At i) e) ∙ record-seated leafShape (recordCount leafShape bytes) bytes i (leaf-below i e)
+  leaf-at i e = record-found leafShape (recordCount leafShape bytes) bytes id i e
 
   pub leaf-none : Nowhere ≡ firstEqual id (keysOf leafShape (recordCount leafShape bytes) bytes)
       → withKey idOf id (recordsOf leafShape bytes) ≡ none
-  unfolding seated
-  leaf-none e = sym (leaf-found Nowhere e)
+  unfolding recordsOf
+  leaf-none e = record-absent leafShape (recordCount leafShape bytes) bytes id e
 
 -- what a leaf record says
 pub answer-at : (block bytes : List ℕ) (i : ℕ)
@@ -85,21 +73,16 @@ unfolding childrenOf childOf
 children-keys to [] = refl
 children-keys to (entry ∷ entries) = ap (λ (ks : List ℕ). keyOf indexShape entry ∷ ks) (children-keys to entries)
 
-length-children : (to : End) (entries : List (List ℕ)) → length (childrenOf to entries) ≡ length entries
-unfolding childrenOf
-length-children to [] = refl
-length-children to (entry ∷ entries) = ap suc (length-children to entries)
-
 module _ (to : End) (bytes : List ℕ) where
   abbrev count : ℕ
   count = recordCount indexShape bytes
 
   child-from : (i j : ℕ) → j + i < count → seated (childrenOf to (recordsFrom indexShape count bytes j)) (At i) ≡ some (childAt to bytes (j + i))
-  unfolding seated childrenOf childAt
-  child-from zero j h = rw (records-at indexShape count bytes j (omega arith), add-zero)
+  unfolding childrenOf childAt
+  child-from zero j h = rw (records-at indexShape count bytes j (omega arith), add-zero) (seated-first _ _)
   child-from (suc i) j h =
       let e : j + suc i ≡ j + 1 + i = omega arith in
-      rw (records-at indexShape count bytes j (omega arith), e) (child-from i (j + 1) (omega arith))
+      rw (records-at indexShape count bytes j (omega arith), e) (seated-next _ _ i ∙ child-from i (j + 1) (omega arith))
 
   child-seated : (i : ℕ) → i < count → seated (childrenOf to (recordsOf indexShape bytes)) (At i) ≡ some (childAt to bytes i)
   unfolding recordsOf
@@ -110,8 +93,8 @@ module _ (to : End) (bytes : List ℕ) where
 
   module _ (id : ℕ) where
     seat-is : lastAtMost id (keysOf indexShape count bytes) ≡ lastAtMost id (map low (childrenOf to (recordsOf indexShape bytes)))
-    unfolding keysOf recordsOf
-    seat-is = ap (lastAtMost id) (sym (children-keys to (recordsOf indexShape bytes)))
+    unfolding recordsOf
+    seat-is = ap (lastAtMost id) (keys-are indexShape count bytes ∙ sym (children-keys to (recordsOf indexShape bytes)))
 
     child-found : (seat : Seat) → seat ≡ lastAtMost id (keysOf indexShape count bytes)
         → seated (childrenOf to (recordsOf indexShape bytes)) seat ≡ choice low id (childrenOf to (recordsOf indexShape bytes))
@@ -119,25 +102,16 @@ module _ (to : End) (bytes : List ℕ) where
         ap (seated (childrenOf to (recordsOf indexShape bytes))) (e ∙ seat-is)
         ∙ sits-there (choice-sits low id (childrenOf to (recordsOf indexShape bytes)))
 
-    child-below : (i : ℕ) → At i ≡ lastAtMost id (keysOf indexShape count bytes) → i < count
-    unfolding recordsOf
-    child-below i e =
-        let below = chosen-below low id (childrenOf to (recordsOf indexShape bytes)) i (sym (e ∙ seat-is)) in
-        let all : length (childrenOf to (recordsOf indexShape bytes)) ≡ count =
-        length-children to (recordsOf indexShape bytes) ∙ length-records indexShape count bytes in
-        omega arith
-
     pub child-inside : (i : ℕ) → At i ≡ lastAtMost id (keysOf indexShape count bytes) → i * 6 + 6 ≤ length bytes
     unfolding recordCount indexShape
-    child-inside i e = let below : i < length bytes / 6 = child-below i e in omega arith
+    child-inside i e = let below : i < length bytes / 6 = chosen-inside indexShape (length bytes / 6) bytes id i e in omega arith
 
     pub child-none : Nowhere ≡ lastAtMost id (keysOf indexShape count bytes) → none ≡ choice low id (childrenOf to (recordsOf indexShape bytes))
-    unfolding seated
-    child-none e = child-found Nowhere e
+    child-none e = sym (seated-nowhere _) ∙ child-found Nowhere e
 
     pub child-chosen : (i : ℕ) → At i ≡ lastAtMost id (keysOf indexShape count bytes)
         → some (childAt to bytes i) ≡ choice low id (childrenOf to (recordsOf indexShape bytes))
-    child-chosen i e = sym (child-seated i (child-below i e)) ∙ child-found (At i) e
+    child-chosen i e = sym (child-seated i (chosen-inside indexShape count bytes id i e)) ∙ child-found (At i) e
 
 -- the two shapes
 pub shape-index : (levels : ℕ) → (levels ≡ 0 → ⊥) → indexShape ≡ shapeAt levels

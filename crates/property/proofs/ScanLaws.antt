@@ -4,17 +4,18 @@ use mathlib.Core.Path.{_≡_, refl, sym, ap, _∙_}
 use mathlib.Core.Bool.{Bool, true, false, cond, _&&_}
 use mathlib.Core.Logic.{_↔_}
 use mathlib.Core.Option.{Option, none, some}
-use mathlib.Core.List.{List, [], _∷_, map}
+use mathlib.Core.List.{List, [], _∷_}
 use native.Mathlib.Nat.{le-refl}
 use native.Mathlib.Omega.{arith}
 use lib.Dec.{leb, eqb}
 use lib.ListN.{length}
-use borrow.Author.Tests.{eqb-false}
+use borrow.Author.Tests.{eqb-true, eqb-false}
 use Rattle.laws.proofs.Tests.{and-both}
 use Rattle.le.specs.Bytes.{field}
 use Rattle.refusal.specs.declared.Refusal.{Refusal}
 use Rattle.refusal.specs.declared.Verdict.the-variants.{Accepted}
 use Rattle.refusal.specs.Order.{demand, after}
+use Rattle.refusal.proofs.OrderLaws.{test-goes, test-ends}
 use Rattle.keys.specs.declared.End.{End}
 use Rattle.keys.specs.declared.End.the-variants.{Open}
 use Rattle.keys.specs.declared.Range.{Range}
@@ -26,7 +27,7 @@ use Rattle.keys.specs.Range.{ordered}
 use Rattle.keys.specs.Search.{withKey, choice}
 use Rattle.keys.proofs.Climbs.{Climbs, done, step, keys-climb}
 use Rattle.keys.proofs.SearchLaws.{All, all-map, Tiled, childless, last, more, chosen-has, inChosen, in-chosen, joined-climbs}
-use Rattle.keys.proofs.FoundLaws.{nothing-exactly}
+use Rattle.keys.proofs.FoundLaws.{nothing-exactly, keys-are}
 use Rattle.heap.specs.Items.{numberFits, badItem, itemPart}
 use Rattle.property.specs.declared.Branch.{Branch}
 use Rattle.property.specs.declared.Property.{Property}
@@ -50,10 +51,11 @@ climbing-is (Outside i) e = let clash : _≡_ {A = ℕ} 0 1 = cc in absurd (omeg
 
 records-climb : (shape : Shape) (range : Range) (bytes : List ℕ) → recordsFit shape range bytes ≡ true
     → Climbs (keyOf shape) (range .to) (range .from) (recordsOf shape bytes)
-unfolding recordsFit recordsOf keysOf
+unfolding recordsFit recordsOf
 records-climb shape range bytes e =
-    let fits = and-both (leb 1 (length bytes) && eqb (length bytes % shape .size) 0) (climbing (ordered range (map (keyOf shape) (records shape (recordCount shape bytes) bytes)))) e in
-    keys-climb (keyOf shape) range (records shape (recordCount shape bytes) bytes) (climbing-is _ (fits .1))
+    let n = recordCount shape bytes in
+    let fits = and-both (leb 1 (length bytes) && eqb (length bytes % shape .size) 0) (climbing (ordered range (keysOf shape n bytes))) e in
+    keys-climb (keyOf shape) range (records shape n bytes) (ap (ordered range) (sym (keys-are shape n bytes)) ∙ climbing-is _ (fits .1))
 
 -- the ranges of the children of climbing records follow one another
 children-tiled : (to : End) (from : ℕ) (entries : List (List ℕ)) → Climbs (keyOf indexShape) to from entries
@@ -113,20 +115,27 @@ module _ (type value : ℕ) where
       cond inside (Number type value) (cond empty (Empty type) (cond named (after Refused (demand there badItem) (Item type value)) (Subnode type value)))
 
   outcome-there : (inside empty named there : Bool) → outcome inside empty named there ≡ Absent → ⊥
-  unfolding after demand
   outcome-there true empty named there e = let clash : _≡_ {A = ℕ} 0 1 = cc in omega arith
   outcome-there false true named there e = let clash : _≡_ {A = ℕ} 0 1 = cc in omega arith
   outcome-there false false false there e = let clash : _≡_ {A = ℕ} 0 1 = cc in omega arith
-  outcome-there false false true true e = let clash : _≡_ {A = ℕ} 0 1 = cc in omega arith
-  outcome-there false false true false e = let clash : _≡_ {A = ℕ} 0 1 = cc in omega arith
+  outcome-there false false true true e =
+      let goes = sym (test-goes Refused true badItem (Item type value) refl) ∙ e in
+      let clash : _≡_ {A = ℕ} 0 1 = cc in omega arith
+  outcome-there false false true false e =
+      let ends = sym (test-ends Refused false badItem (Item type value) refl) ∙ e in
+      let clash : _≡_ {A = ℕ} 0 1 = cc in omega arith
 
-  outcome-refused : (inside empty named there : Bool) (r : Refusal) → outcome inside empty named there ≡ Refused r → (there ≡ false) × (r ≡ badItem)
-  unfolding after demand
+  outcome-refused : (inside empty named there : Bool) (r : Refusal) → outcome inside empty named there ≡ Refused r
+      → (named ≡ true) × (there ≡ false) × (r ≡ badItem)
   outcome-refused true empty named there r e = let clash : _≡_ {A = ℕ} 0 1 = cc in absurd (omega arith)
   outcome-refused false true named there r e = let clash : _≡_ {A = ℕ} 0 1 = cc in absurd (omega arith)
   outcome-refused false false false there r e = let clash : _≡_ {A = ℕ} 0 1 = cc in absurd (omega arith)
-  outcome-refused false false true true r e = let clash : _≡_ {A = ℕ} 0 1 = cc in absurd (omega arith)
-  outcome-refused false false true false r e = (refl, cc)
+  outcome-refused false false true true r e =
+      let goes = sym (test-goes Refused true badItem (Item type value) refl) ∙ e in
+      let clash : _≡_ {A = ℕ} 0 1 = cc in absurd (omega arith)
+  outcome-refused false false true false r e =
+      let ends = sym (test-ends Refused false badItem (Item type value) refl) ∙ e in
+      (refl, refl, cc)
 
 module _ (block : List ℕ) where
   answer-there : (o : Option (List ℕ)) → answer block o ≡ Absent → o ≡ none
@@ -140,13 +149,13 @@ module _ (block : List ℕ) where
   answer-refused id r none f e = let clash : _≡_ {A = ℕ} 0 1 = cc in absurd (omega arith)
   answer-refused id r (some entry) f e =
       let wrong = outcome-refused (field entry 2 2) (field entry 4 4) (inPlace (field entry 2 2)) (eqb (field entry 4 4) 0) (eqb (field entry 4 4 % 32) 0) (numberFits block (field entry 4 4)) r e in
-      record { entry = entry; found = f; wrong = wrong .0; number = wrong .1 }
+      record { entry = entry; found = f; names = eqb-true _ _ (wrong .0); wrong = wrong .1; number = wrong .2 }
 
 -- the root item, if there is one
 module _ (block : List ℕ) (sound : SoundTree block) where
   answers-by : (id : ℕ) (empty : Bool) → eqb (rootItem block) 0 ≡ empty → fromRoot block id ≡ answer block (withKey idOf id (scan block))
-  unfolding fromRoot scan withKey answer
-  answers-by id true e = rw e
+  unfolding fromRoot scan answer
+  answers-by id true e = rw e (sym (ap (answer block) (nothing-exactly idOf id [] .1 tt)))
   answers-by id false e = rw e (descent-is block id (indexLevels block) (rootBranch block) (sound .items (eqb-false (rootItem block) 0 e)))
 
   scan-answers : (id : ℕ) → property block id ≡ answer block (withKey idOf id (scan block))

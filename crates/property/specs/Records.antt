@@ -35,6 +35,7 @@ unfoldable pub shapeAt : ℕ → Shape
 shapeAt zero = leafShape
 shapeAt (suc levels) = indexShape
 
+-- whether the test of ids found no fault
 unfoldable pub climbing : Order → Bool
 climbing Climbing = true
 climbing (Unordered i) = false
@@ -76,6 +77,7 @@ unfoldable pub childrenOf : End → List (List ℕ) → List Branch
 childrenOf to [] = []
 childrenOf to (entry ∷ entries) = childOf (endOf to entries) entry ∷ childrenOf to entries
 
+-- the children of an index item, from left to right
 unfoldable pub children : List ℕ → Branch → List Branch
 children block branch = childrenOf (branch .range .to) (recordsOf indexShape (itemPart block (branch .item)))
 

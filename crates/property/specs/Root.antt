@@ -26,6 +26,7 @@ rootFits root =
 unfoldable pub rootPart : List ℕ → List ℕ
 rootPart block = itemPart block (userRoot block)
 
+-- its index levels, and the root item of the tree
 unfoldable pub indexLevels : List ℕ → ℕ
 indexLevels block = byte (rootPart block) 3
 

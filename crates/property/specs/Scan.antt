@@ -1,5 +1,5 @@
 -- The plain scan of a property tree, and what a lookup in a sound one answers. Assumes nothing: these are definitions.
-use Prim.Native.Nat.{ℕ, zero, suc}
+use Prim.Native.Nat.{ℕ, zero, suc, _%_}
 use mathlib.Core.Path.{_≡_}
 use mathlib.Core.Bool.{cond, false}
 use mathlib.Core.Logic.{_↔_}
@@ -41,10 +41,11 @@ module _ (block : List ℕ) where
   unfoldable pub scan : List (List ℕ)
   scan = cond (eqb (rootItem block) 0) [] (leavesUnder (indexLevels block) (rootBranch block))
 
-  -- the scan's record names an item of the heap that is not there: the one refusal that a sound tree leaves
+  -- the record that the scan finds names an item that the heap has not: the one refusal that a sound tree leaves
   pub record WrongValue (id : ℕ) (refusal : Refusal) : Type 0 where
     pub entry : List ℕ
     pub found : withKey idOf id scan ≡ some entry
+    pub names : field entry 4 4 % 32 ≡ 0
     pub wrong : numberFits block (field entry 4 4) ≡ false
     pub number : refusal ≡ badItem
 

@@ -60,7 +60,7 @@ fn check_root(block: &[u8]) -> Verdict
     requires { ⌜ Heap (now block) ⌝ }
     ensures { λ r. ⌜ r ≡ inOrder (rootRules (now (block .entry))) ⌝ }
 {
-    if le::byte_at(block, 3) != 0xBC {
+    if heap::client_kind(block) != 0xBC {
         return refusal::refused_at(Fault::PropertyTree, 0);
     }
     let root = heap::user_root(block);

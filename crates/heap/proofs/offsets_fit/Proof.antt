@@ -5,7 +5,7 @@ use Rattle.heap.proofs.offsets_fit.Tie as tie
 
 returns : tie.Need-returns
 unfolding offsetsFit
-returns c = rw (c .before .before .before .offsets-climb .ensures, c .before .before .offset-at .ensures .0, c .before .offset-at2 .ensures .0, c .map-offset .ensures .0, c .before .before .before .before .item-count .ensures .0)
+returns c = rw (c .before .before .before .order-fits .ensures, c .before .before .offset-at .ensures .0, c .before .offset-at2 .ensures .0, c .map-offset .ensures .0, c .before .before .before .before .item-count .ensures .0)
 
 pub offsets-fit-spec : {M : Type 1} → statement M
 offsets-fit-spec =

@@ -20,14 +20,12 @@ record-is c =
     ∙ ap rootFits (c .before .part-of .ensures ∙ ap (itemPart (c .before .before .before .before .before .before .before .before .args .block .now)) (c .before .before .before .before .user-root .ensures))
 
 kind-is : (c : tie.Else1) → clientKind (c .before .before .before .args .block .now) ≡ 0xBC
-unfolding clientKind
-kind-is c = sym (c .before .byte-at .ensures) ∙ c .if1 .left
+kind-is c = sym (c .before .client-kind .ensures) ∙ c .if1 .left
 
 returns : tie.Need-returns
-unfolding clientKind
 returns c =
     let block = c .before .before .before .before .args .block .now in
-    c .refused-at .ensures ∙ sym (wrong-kind block (λ e. c .before .if1 .taken (c .before .before .byte-at .ensures ∙ e)))
+    c .refused-at .ensures ∙ sym (wrong-kind block (λ e. c .before .if1 .taken (c .before .before .client-kind .ensures ∙ e)))
 
 returns-2 : tie.Need-returns-2
 returns-2 c =

@@ -5,8 +5,8 @@ use native.Mathlib.Omega.{arith}
 use borrow.Author.Needs.{needs}
 use Rattle.heap.specs.Shape.{itemCount, offset, neverFall}
 use Rattle.heap.proofs.ShapeLaws.{one-more, one-falls}
-use Rattle.heap.proofs.offsets_climb.Statement.{statement}
-use Rattle.heap.proofs.offsets_climb.Tie as tie
+use Rattle.heap.proofs.order_fits.Statement.{statement}
+use Rattle.heap.proofs.order_fits.Tie as tie
 
 abbrev Inv-loop : tie.InvT-loop
 Inv-loop block count last₀ i₀ last i = (i ≤ count) × (neverFall block i ≡ true) × (last ≡ offset block (i + 1))
@@ -38,8 +38,8 @@ returns-2 c =
     let all : l .i ≡ itemCount b = omega arith in
     sym (ap (neverFall b) (sym all) ∙ l .inv .1)
 
-pub offsets-climb-spec : {M : Type 1} → statement M
-offsets-climb-spec =
+pub order-fits-spec : {M : Type 1} → statement M
+order-fits-spec =
     tie.close
     (tie.spec
     Inv-loop
