@@ -6,6 +6,7 @@ use mathlib.Core.List.{List, [], _∷_}
 use mathlib.Core.Logic.{_↔_}
 use native.Mathlib.Omega.{arith}
 use lib.Dec.{leb, eqb}
+use lib.ListN.{length}
 use borrow.Author.Tests.{leb-true, le-leb, eqb-true, eq-eqb}
 use Rattle.laws.proofs.Tests.{and-both, both-and}
 use Rattle.le.proofs.FieldLaws.{part-length}
@@ -17,7 +18,7 @@ use Rattle.refusal.proofs.OrderLaws.{passes, goes, ends, demanded, then-left, t
 use Rattle.heap.specs.declared.Span.{Span}
 use Rattle.heap.specs.declared.Span.the-variants.{Within}
 use Rattle.heap.specs.Shape.{mapOffset, itemCount, offset, shapeRules, heapTest, Heap}
-use Rattle.heap.specs.Items.{kindOf, indexOf, blockOf, numberFits, Numbered, badItem, itemRules, itemTest, itemStart, itemLength, itemPart, itemOr, itemSpan, Lies}
+use Rattle.heap.specs.Items.{kindOf, indexOf, blockOf, numberFits, Numbered, badItem, itemRules, itemTest, itemStart, itemEnd, itemLength, itemPart, itemOr, itemSpan, Lies}
 use Rattle.heap.proofs.ShapeLaws.{heap-exactly}
 
 -- a number names an item exactly when each rule of item numbers holds
@@ -119,20 +120,29 @@ module _ (block : List ℕ) (h : Heap block) where
         rw e at (rises 1 (indexOf item - 1) (omega arith) (omega (arith, n .to)))
 
     -- the two offsets, as a slice asks for them
-    pub starts-before : offset block (indexOf item) ≤ offset block (indexOf item + 1)
+    pub starts-before : itemStart block item ≤ itemEnd block item
+    unfolding itemStart itemEnd
     starts-before = h .climb (indexOf item) (n .from) (n .to)
 
-    pub ends-before : offset block (indexOf item + 1) ≤ mapOffset block
+    ends-before : itemEnd block item ≤ mapOffset block
+    unfolding itemEnd
     ends-before = omega (arith, last-above, h .last)
 
+    pub ends-inside : itemEnd block item ≤ length block
+    ends-inside = omega (arith, ends-before, h .inside)
+
+    starts-behind : 12 ≤ itemStart block item
+    unfolding itemStart
+    starts-behind = omega (arith, h .first, first-below)
+
     item-lies : Lies block item
-    unfolding itemStart itemLength itemPart
+    unfolding itemLength itemPart
     item-lies =
         record {
-          front = omega (arith, h .first, first-below);
+          front = starts-behind;
           map = omega (arith, starts-before, ends-before);
-          inside = omega (arith, starts-before, ends-before, h .inside);
-          whole = part-length block (offset block (indexOf item)) (offset block (indexOf item + 1) - offset block (indexOf item)) (omega (arith, starts-before, ends-before, h .inside));
+          inside = omega (arith, starts-before, ends-inside);
+          whole = part-length block (itemStart block item) (itemEnd block item - itemStart block item) (omega (arith, starts-before, ends-inside));
         }
 
 -- an accepted item lies inside the block

@@ -51,8 +51,11 @@ itemTest block item = inOrder (itemRules block item)
 unfoldable pub itemStart : List ℕ → ℕ → ℕ
 itemStart block item = offset block (indexOf item)
 
+unfoldable pub itemEnd : List ℕ → ℕ → ℕ
+itemEnd block item = offset block (indexOf item + 1)
+
 unfoldable pub itemLength : List ℕ → ℕ → ℕ
-itemLength block item = offset block (indexOf item + 1) - offset block (indexOf item)
+itemLength block item = itemEnd block item - itemStart block item
 
 unfoldable pub itemPart : List ℕ → ℕ → List ℕ
 itemPart block item = part block (itemStart block item) (itemLength block item)

@@ -8,12 +8,18 @@ ghost use lib.Dec.{leb};
 ghost use lib.ListN.{length};
 ghost use Rattle.le.specs.Bytes.{field};
 ghost use Rattle.heap.specs.Shape.{mapOffset, clientKind, userRoot, itemCount, offset, mapEnd, neverFall, offsetsFit, heapTest, Heap};
-ghost use Rattle.heap.specs.Items.{indexOf, numberFits, Numbered, itemTest, itemStart, itemLength, itemPart, itemOr, itemSpan};
+ghost use Rattle.heap.specs.Items.{indexOf, numberFits, Numbered, itemTest, itemStart, itemEnd, itemLength, itemPart, itemOr, itemSpan};
 
 // Where an item starts and how long it is.
 pub enum Span {
     Within(usize, usize),
     Refused(Refusal),
+}
+
+// Where an item starts, and where the next begins.
+struct Bounds {
+    start: usize,
+    end: usize,
 }
 
 fn offset_in(block: &[u8], place: usize) -> usize
@@ -159,14 +165,25 @@ pub fn test_item(block: &[u8], item: u32) -> Verdict
     Verdict::Accepted
 }
 
+// Where an item of this heap starts, and where it ends.
+fn bounds_of(block: &[u8], item: u32) -> Bounds
+    requires { ⌜ Heap (now block) × Numbered (now block) item ⌝ }
+    ensures { λ r. ⌜ (r .start ≡ itemStart (now (block .entry)) item) × (r .end ≡ itemEnd (now (block .entry)) item) × (r .start ≤ r .end) × (r .end ≤ length (now (block .entry))) ⌝ }
+{
+    let index = index_of(item);
+    let start = offset_at(block, index);
+    let end = offset_at(block, index + 1);
+    Bounds { start, end }
+}
+
 // The item, between two offsets of the map, where the test has accepted it.
 pub fn part_of<'a>(block: &'a [u8], item: u32) -> &'a [u8]
     requires { ⌜ Heap (now block) × Numbered (now block) item ⌝ }
     ensures { λ r. ⌜ now r ≡ itemPart (now (block .entry)) item ⌝ }
 {
-    let index = index_of(item);
-    let start = offset_at(block, index);
-    let end = offset_at(block, index + 1);
+    let bounds = bounds_of(block, item);
+    let start = bounds.start;
+    let end = bounds.end;
     &block[start..end]
 }
 
@@ -196,8 +213,8 @@ fn span_of(block: &[u8], item: u32) -> Span
     requires { ⌜ Heap (now block) × Numbered (now block) item ⌝ }
     ensures { λ r. ⌜ r ≡ Span.Within (itemStart (now (block .entry)) item) (itemLength (now (block .entry)) item) ⌝ }
 {
-    let index = index_of(item);
-    let start = offset_at(block, index);
-    let end = offset_at(block, index + 1);
+    let bounds = bounds_of(block, item);
+    let start = bounds.start;
+    let end = bounds.end;
     Span::Within(start, end - start)
 }
