@@ -1,23 +1,21 @@
--- What a plain scan finds, and which record sits where. Assumes nothing.
-use Prim.Native.Nat.{ℕ, zero, suc, _+_, _<_}
+-- What a plain scan of records finds, and that a search by seats finds the same. Assumes nothing.
+use Prim.Native.Nat.{ℕ, suc, _<_}
 use mathlib.Core.Path.{_≡_, refl, sym, ap, _∙_}
 use mathlib.Core.Bool.{Bool, true, false}
 use mathlib.Core.Logic.{_↔_}
 use mathlib.Core.Option.{none, some}
 use mathlib.Core.List.{List, [], _∷_, map}
-use native.Mathlib.Nat.{add-zero, zero-add}
 use native.Mathlib.Omega.{arith}
 use lib.Dec.{eqb}
-use lib.ListN.{length, drop}
 use borrow.Author.Tests.{eqb-false, ne-eqb}
 use Rattle.keys.specs.declared.Shape.{Shape}
 use Rattle.keys.specs.declared.Seat.{Seat}
 use Rattle.keys.specs.declared.Seat.the-variants.{At, Nowhere}
-use Rattle.keys.specs.Records.{cut, keyOf, records, keysOf, recordAt}
+use Rattle.keys.specs.Plain.{Missing}
+use Rattle.keys.specs.Records.{keyOf, records, keysOf, recordAt}
 use Rattle.keys.specs.Search.{lastAtMost, firstEqual, seated, withKey}
-use Rattle.keys.proofs.RecordLaws.{recordsFrom, records-all, records-at}
-use Rattle.keys.proofs.SearchLaws.{All}
-use Rattle.keys.proofs.SeatLaws.{sits-there, found-sits, found-below, chosen-below}
+use Rattle.keys.proofs.RecordLaws.{records-length}
+use Rattle.keys.proofs.SeatLaws.{sits-there, found-sits, found-below, chosen-below, seated-record}
 
 -- a scan finds nothing exactly when nothing has the key
 module _ {A : Type 0} (key : A → ℕ) (k : ℕ) where
@@ -29,22 +27,21 @@ module _ {A : Type 0} (key : A → ℕ) (k : ℕ) where
   unfolding withKey
   found-later x xs e = rw e
 
-  nothing-has : (xs : List A) → withKey key k xs ≡ none → All (λ x. key x ≡ k → ⊥) xs
+  nothing-has : (xs : List A) → withKey key k xs ≡ none → Missing k (map key xs)
   nothing-has [] e = tt
   nothing-has (x ∷ xs) e = by (eqb (key x) k) refl (nothing-has xs)
     where
-      by : (b : Bool) → eqb (key x) k ≡ b → (withKey key k xs ≡ none → All (λ y. key y ≡ k → ⊥) xs)
-          → (key x ≡ k → ⊥) × All (λ y. key y ≡ k → ⊥) xs
+      by : (b : Bool) → eqb (key x) k ≡ b → (withKey key k xs ≡ none → Missing k (map key xs)) → Missing k (map key (x ∷ xs))
       by true b f = let found = found-here x xs b in let clash : _≡_ {A = ℕ} 0 1 = cc in absurd (omega arith)
-      by false b f = (eqb-false (key x) k b, f (sym (found-later x xs b) ∙ e))
+      by false b f = (λ same. eqb-false (key x) k b (sym same), f (sym (found-later x xs b) ∙ e))
 
-  finds-nothing : (xs : List A) → All (λ x. key x ≡ k → ⊥) xs → withKey key k xs ≡ none
+  finds-nothing : (xs : List A) → Missing k (map key xs) → withKey key k xs ≡ none
   unfolding withKey
-  finds-nothing [] a = refl
-  finds-nothing (x ∷ xs) a = rw (ne-eqb (key x) k (a .0)) (finds-nothing xs (a .1))
+  finds-nothing [] m = refl
+  finds-nothing (x ∷ xs) m = rw (ne-eqb (key x) k (λ same. m .0 (sym same))) (finds-nothing xs (m .1))
 
-  pub nothing-exactly : (xs : List A) → (withKey key k xs ≡ none) ↔ All (λ x. key x ≡ k → ⊥) xs
-  nothing-exactly xs = (nothing-has xs, finds-nothing xs)
+  pub missing-exactly : (xs : List A) → (withKey key k xs ≡ none) ↔ Missing k (map key xs)
+  missing-exactly xs = (nothing-has xs, finds-nothing xs)
 
 -- what sits in a seat, one seat at a time
 module _ {A : Type 0} where
@@ -60,34 +57,10 @@ module _ {A : Type 0} where
   unfolding seated
   seated-next x xs i = refl
 
--- so many records are so many
-length-cut : (n size : ℕ) (bytes : List ℕ) → length (cut n size bytes) ≡ n
-unfolding cut
-length-cut zero size bytes = refl
-length-cut (suc n) size bytes = ap suc (length-cut n size (drop size bytes))
-
 module _ (shape : Shape) (n : ℕ) (bytes : List ℕ) where
   pub keys-are : keysOf shape n bytes ≡ map (keyOf shape) (records shape n bytes)
   unfolding keysOf
   keys-are = refl
-
-  pub length-records : length (records shape n bytes) ≡ n
-  unfolding records
-  length-records = length-cut n (shape .size) bytes
-
-  -- what sits at the i-th seat from the j-th record on is the record of that number
-  seated-from : (i j : ℕ) → j + i < n → seated (recordsFrom shape n bytes j) (At i) ≡ some (recordAt shape bytes (j + i))
-  unfolding seated
-  seated-from zero j h = rw (records-at shape n bytes j (omega arith), add-zero)
-  seated-from (suc i) j h =
-      let e : j + suc i ≡ j + 1 + i = omega arith in
-      rw (records-at shape n bytes j (omega arith), e) (seated-from i (j + 1) (omega arith))
-
-  pub record-seated : (i : ℕ) → i < n → seated (records shape n bytes) (At i) ≡ some (recordAt shape bytes i)
-  record-seated i h =
-      ap (λ (rs : List (List ℕ)). seated rs (At i)) (sym (records-all shape n bytes))
-      ∙ seated-from i 0 (omega arith)
-      ∙ ap (λ (k : ℕ). some (recordAt shape bytes k)) (zero-add i)
 
   -- the record in the seat that is found is what the scan finds
   module _ (k : ℕ) where
@@ -95,14 +68,14 @@ module _ (shape : Shape) (n : ℕ) (bytes : List ℕ) where
     seat-sits seat e = ap (seated (records shape n bytes)) (e ∙ ap (firstEqual k) keys-are) ∙ sits-there (found-sits (keyOf shape) k (records shape n bytes))
 
     pub found-inside : (i : ℕ) → At i ≡ firstEqual k (keysOf shape n bytes) → i < n
-    found-inside i e = rw length-records at (found-below (keyOf shape) k (records shape n bytes) i (sym (e ∙ ap (firstEqual k) keys-are)))
+    found-inside i e = rw (records-length shape n bytes) at (found-below (keyOf shape) k (records shape n bytes) i (sym (e ∙ ap (firstEqual k) keys-are)))
 
     pub record-found : (i : ℕ) → At i ≡ firstEqual k (keysOf shape n bytes) → withKey (keyOf shape) k (records shape n bytes) ≡ some (recordAt shape bytes i)
-    record-found i e = sym (seat-sits (At i) e) ∙ record-seated i (found-inside i e)
+    record-found i e = sym (seat-sits (At i) e) ∙ seated-record shape n bytes i (found-inside i e)
 
     pub record-absent : Nowhere ≡ firstEqual k (keysOf shape n bytes) → withKey (keyOf shape) k (records shape n bytes) ≡ none
     record-absent e = sym (seat-sits Nowhere e) ∙ seated-nowhere (records shape n bytes)
 
     -- a record that is chosen is one of them
     pub chosen-inside : (i : ℕ) → At i ≡ lastAtMost k (keysOf shape n bytes) → i < n
-    chosen-inside i e = rw length-records at (chosen-below (keyOf shape) k (records shape n bytes) i (sym (e ∙ ap (lastAtMost k) keys-are)))
+    chosen-inside i e = rw (records-length shape n bytes) at (chosen-below (keyOf shape) k (records shape n bytes) i (sym (e ∙ ap (lastAtMost k) keys-are)))

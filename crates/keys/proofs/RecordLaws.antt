@@ -73,3 +73,11 @@ unfolding keyAt keyOf
 key-is shape bytes i h =
     field-at shape bytes i 0 (shape .width) (omega arith)
     ∙ ap (λ (place : ℕ). field bytes place (shape .width)) (add-zero (i * shape .size))
+
+pub records-length : (shape : Shape) (n : ℕ) (bytes : List ℕ) → length (records shape n bytes) ≡ n
+unfolding records cut
+records-length shape n bytes = cut-length n (shape .size) bytes
+  where
+    cut-length : (m size : ℕ) (s : List ℕ) → length (cut m size s) ≡ m
+    cut-length zero size s = refl
+    cut-length (suc m) size s = ap suc (cut-length m size (drop size s))

@@ -10,13 +10,9 @@ use lib.Dec.{leb, eqb}
 use borrow.Author.Tests.{leb-true, leb-false, lt-leb, ne-eqb}
 use Rattle.keys.specs.declared.End.{End}
 use Rattle.keys.specs.declared.End.the-variants.{Before}
+pub use Rattle.keys.specs.Plain.{All}
 use Rattle.keys.specs.Search.{withKey, orLater, choice, joined}
 use Rattle.keys.proofs.Climbs.{Under, under-less, Climbs, done, step, climbs-lower, climbs-append, climbs-nil}
-
--- each element of a list has the property
-abbrev pub All : {A : Type 0} → (A → Type 0) → List A → Type 0
-All P [] = Unit {0}
-All P (x ∷ xs) = P x × All P xs
 
 pub all-map : {A : Type 0} {P Q : A → Type 0} → ((x : A) → P x → Q x) → (xs : List A) → All P xs → All Q xs
 all-map f [] a = tt
@@ -30,7 +26,7 @@ pub data Tiled {C : Type 0} (low : C → ℕ) (high : C → End) (to : End) : �
       Tiled low high to (low d) (d ∷ cs) → Tiled low high to from (c ∷ d ∷ cs)
 
 -- the first of tiled children begins in the parent's range
-first-under : {C : Type 0} {low : C → ℕ} {high : C → End} {to : End} {from : ℕ} {c : C} {cs : List C} →
+pub first-under : {C : Type 0} {low : C → ℕ} {high : C → End} {to : End} {from : ℕ} {c : C} {cs : List C} →
     Tiled low high to from (c ∷ cs) → Under to (low c)
 first-under (last f u e) = u
 first-under {to = to} (more f l e t) = under-less to _ _ (le-of-lt l) (first-under t)

@@ -13,9 +13,9 @@ use borrow.Author.Tests.{le-leb, lt-leb, eq-eqb, ne-eqb}
 use Rattle.keys.specs.declared.Shape.{Shape}
 use Rattle.keys.specs.declared.Seat.{Seat}
 use Rattle.keys.specs.declared.Seat.the-variants.{At, Nowhere}
-use Rattle.keys.specs.Records.{keyAt, keysOf}
+use Rattle.keys.specs.Records.{records, recordAt, keyAt, keysOf}
 use Rattle.keys.specs.Search.{onward, orFirst, lastAtMost, firstEqual, seated, withKey, orLater, choice}
-use Rattle.keys.proofs.RecordLaws.{keysFrom, keys-all, keys-at, keys-none}
+use Rattle.keys.proofs.RecordLaws.{recordsFrom, records-all, records-at, keysFrom, keys-all, keys-at, keys-none}
 
 -- the seat i further on
 pub further : ℕ → Seat → Seat
@@ -129,3 +129,19 @@ module _ {A : Type 0} (key : A → ℕ) (k : ℕ) where
 
   pub found-below : (cs : List A) (i : ℕ) → firstEqual k (map key cs) ≡ At i → i < length cs
   found-below cs i e = below-at i (found-sits cs) e
+
+-- the record that sits in the i-th seat of those from the j-th on
+pub seated-from : (shape : Shape) (n : ℕ) (bytes : List ℕ) (i j : ℕ) → j + i < n
+    → seated (recordsFrom shape n bytes j) (At i) ≡ some (recordAt shape bytes (j + i))
+unfolding seated
+seated-from shape n bytes zero j h =
+    rw (records-at shape n bytes j (omega arith)) (ap (λ (k : ℕ). some (recordAt shape bytes k)) (sym (add-zero j)))
+seated-from shape n bytes (suc i) j h =
+    let k : j + 1 + i ≡ j + suc i = omega arith in
+    rw (records-at shape n bytes j (omega arith)) (seated-from shape n bytes i (j + 1) (omega arith) ∙ ap (λ (m : ℕ). some (recordAt shape bytes m)) k)
+
+pub seated-record : (shape : Shape) (n : ℕ) (bytes : List ℕ) (i : ℕ) → i < n → seated (records shape n bytes) (At i) ≡ some (recordAt shape bytes i)
+seated-record shape n bytes i h =
+    ap (λ (xs : List (List ℕ)). seated xs (At i)) (sym (records-all shape n bytes))
+    ∙ seated-from shape n bytes i 0 (omega arith)
+    ∙ ap (λ (k : ℕ). some (recordAt shape bytes k)) (zero-add i)

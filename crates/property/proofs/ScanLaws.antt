@@ -4,7 +4,7 @@ use mathlib.Core.Path.{_≡_, refl, sym, ap, _∙_}
 use mathlib.Core.Bool.{Bool, true, false, cond, _&&_}
 use mathlib.Core.Logic.{_↔_}
 use mathlib.Core.Option.{Option, none, some}
-use mathlib.Core.List.{List, [], _∷_}
+use mathlib.Core.List.{List, [], _∷_, map}
 use native.Mathlib.Nat.{le-refl}
 use native.Mathlib.Omega.{arith}
 use lib.Dec.{leb, eqb}
@@ -20,14 +20,13 @@ use Rattle.keys.specs.declared.End.{End}
 use Rattle.keys.specs.declared.End.the-variants.{Open}
 use Rattle.keys.specs.declared.Range.{Range}
 use Rattle.keys.specs.declared.Shape.{Shape}
-use Rattle.keys.specs.declared.Order.{Order}
-use Rattle.keys.specs.declared.Order.the-variants.{Climbing, Unordered, Outside}
 use Rattle.keys.specs.Records.{keyOf, records, keysOf}
+use Rattle.keys.specs.Plain.{Missing}
 use Rattle.keys.specs.Range.{ordered}
 use Rattle.keys.specs.Search.{withKey, choice}
-use Rattle.keys.proofs.Climbs.{Climbs, done, step, keys-climb}
-use Rattle.keys.proofs.SearchLaws.{All, all-map, Tiled, childless, last, more, chosen-has, inChosen, in-chosen, joined-climbs}
-use Rattle.keys.proofs.FoundLaws.{nothing-exactly, keys-are}
+use Rattle.keys.proofs.Climbs.{Climbs, done, step, keys-climb, climbs-ascend}
+use Rattle.keys.proofs.SearchLaws.{all-map, Tiled, childless, last, more, chosen-has, inChosen, in-chosen, joined-climbs}
+use Rattle.keys.proofs.FoundLaws.{missing-exactly, keys-are}
 use Rattle.heap.specs.Items.{numberFits, badItem, itemPart}
 use Rattle.property.specs.declared.Branch.{Branch}
 use Rattle.property.specs.declared.Property.{Property}
@@ -35,7 +34,9 @@ use Rattle.property.specs.declared.Property.the-variants.{Number, Empty,
 use Rattle.property.specs.Root.{indexLevels, rootItem}
 use Rattle.property.specs.Records.{leafShape, indexShape, idOf, shapeAt, climbing, recordCount, recordsFit, branchTest, recordsOf, endOf, childOf, childrenOf, children, leafRecords}
 use Rattle.property.specs.Descent.{inPlace, valueOf, answer, low, onward, descent, rootBranch, fromRoot, property}
-use Rattle.property.specs.Scan.{SoundUnder, SoundTree, leavesUnder, scan, WrongValue, AsScanned}
+use Rattle.property.specs.Sound.{SoundTree}
+use Rattle.property.specs.Scan.{leavesUnder, scan, WrongValue, ScanHolds}
+use Rattle.property.proofs.SoundLaws.{climbing-is, AcceptedUnder, tree-accepted, root-accepted}
 use Rattle.property.proofs.StepLaws.{branch-fits, descent-leaf, descent-on, property-on}
 
 -- where a child's ids end
@@ -43,12 +44,6 @@ abbrev high : Branch → End
 high branch = branch .range .to
 
 -- the ids of an accepted item climb in its range
-climbing-is : (o : Order) → climbing o ≡ true → o ≡ Climbing
-unfolding climbing
-climbing-is Climbing e = refl
-climbing-is (Unordered i) e = let clash : _≡_ {A = ℕ} 0 1 = cc in absurd (omega arith)
-climbing-is (Outside i) e = let clash : _≡_ {A = ℕ} 0 1 = cc in absurd (omega arith)
-
 records-climb : (shape : Shape) (range : Range) (bytes : List ℕ) → recordsFit shape range bytes ≡ true
     → Climbs (keyOf shape) (range .to) (range .from) (recordsOf shape bytes)
 unfolding recordsFit recordsOf
@@ -79,7 +74,7 @@ module _ (block : List ℕ) where
       (records-climb indexShape (branch .range) (itemPart block (branch .item)) (branch-fits block (suc levels) branch e))
 
   -- the leaf records under a sound item climb in its range
-  leaves-climb : (levels : ℕ) (branch : Branch) → SoundUnder block levels branch
+  leaves-climb : (levels : ℕ) (branch : Branch) → AcceptedUnder block levels branch
       → Climbs idOf (high branch) (low branch) (leavesUnder block levels branch)
   unfolding leavesUnder
   leaves-climb zero branch s = leaf-climbs branch s
@@ -96,14 +91,14 @@ module _ (block : List ℕ) where
     onward-is levels (some child) f = f child refl
 
     -- the descent from a sound item answers as the scan of the leaf records under it
-    descent-is : (levels : ℕ) (branch : Branch) → SoundUnder block levels branch
+    descent-is : (levels : ℕ) (branch : Branch) → AcceptedUnder block levels branch
         → descent block id levels branch ≡ answer block (withKey idOf id (leavesUnder block levels branch))
     unfolding leavesUnder
     descent-is zero branch s = descent-leaf block id branch s
     descent-is (suc levels) branch s =
         descent-on block id levels branch (s .0)
         ∙ onward-is levels (choice low id (children block branch))
-        (λ child e. descent-is levels child (chosen-has (λ c. SoundUnder block levels c) low id (children block branch) child (s .1) e))
+        (λ child e. descent-is levels child (chosen-has (λ c. AcceptedUnder block levels c) low id (children block branch) child (s .1) e))
         ∙ ap (answer block)
         (in-chosen low high idOf (λ child. leavesUnder block levels child) id (tiled levels branch (s .0))
         (all-map (leaves-climb levels) (children block branch) (s .1)))
@@ -155,30 +150,30 @@ module _ (block : List ℕ) where
 module _ (block : List ℕ) (sound : SoundTree block) where
   answers-by : (id : ℕ) (empty : Bool) → eqb (rootItem block) 0 ≡ empty → fromRoot block id ≡ answer block (withKey idOf id (scan block))
   unfolding fromRoot scan answer
-  answers-by id true e = rw e (sym (ap (answer block) (nothing-exactly idOf id [] .1 tt)))
-  answers-by id false e = rw e (descent-is block id (indexLevels block) (rootBranch block) (sound .items (eqb-false (rootItem block) 0 e)))
+  answers-by id true e = rw e (sym (ap (answer block) (missing-exactly idOf id [] .1 tt)))
+  answers-by id false e = rw e (descent-is block id (indexLevels block) (rootBranch block) (tree-accepted block sound (eqb-false (rootItem block) 0 e)))
 
   scan-answers : (id : ℕ) → property block id ≡ answer block (withKey idOf id (scan block))
-  scan-answers id = property-on block id (sound .root) ∙ answers-by id (eqb (rootItem block) 0) refl
+  scan-answers id = property-on block id (root-accepted block sound) ∙ answers-by id (eqb (rootItem block) 0) refl
 
   climbs-by : (empty : Bool) → eqb (rootItem block) 0 ≡ empty → Climbs idOf Open 0 (scan block)
   unfolding scan rootBranch
   climbs-by true e = rw e done
-  climbs-by false e = rw e (leaves-climb block (indexLevels block) (rootBranch block) (sound .items (eqb-false (rootItem block) 0 e)))
+  climbs-by false e = rw e (leaves-climb block (indexLevels block) (rootBranch block) (tree-accepted block sound (eqb-false (rootItem block) 0 e)))
 
-  scan-absent : (id : ℕ) → (property block id ≡ Absent) ↔ All (λ entry. idOf entry ≡ id → ⊥) (scan block)
+  scan-absent : (id : ℕ) → (property block id ≡ Absent) ↔ Missing id (map idOf (scan block))
   unfolding answer
   scan-absent id = (
-    (λ e. nothing-exactly idOf id (scan block) .0 (answer-there block (withKey idOf id (scan block)) (sym (scan-answers id) ∙ e))),
-    (λ a. scan-answers id ∙ ap (answer block) (nothing-exactly idOf id (scan block) .1 a)),
+    (λ e. missing-exactly idOf id (scan block) .0 (answer-there block (withKey idOf id (scan block)) (sym (scan-answers id) ∙ e))),
+    (λ m. scan-answers id ∙ ap (answer block) (missing-exactly idOf id (scan block) .1 m)),
   )
 
-  -- the theorem: a lookup in a sound tree answers as the plain scan does
-  pub as-scanned : AsScanned block
-  as-scanned =
-      record {
-        answers = scan-answers;
-        absent = scan-absent;
-        refused = λ id r e. answer-refused block id r (withKey idOf id (scan block)) refl (sym (scan-answers id) ∙ e);
-        ascending = climbs-by (eqb (rootItem block) 0) refl;
-      }
+-- the theorem: a lookup in a sound tree answers as the plain scan does
+pub scan-holds : ScanHolds
+scan-holds block sound =
+    record {
+      answers = scan-answers block sound;
+      ascending = climbs-ascend idOf (climbs-by block sound (eqb (rootItem block) 0) refl);
+      absent-iff = scan-absent block sound;
+      refused = λ id r e. answer-refused block id r (withKey idOf id (scan block)) refl (sym (scan-answers block sound id) ∙ e);
+    }

@@ -1,0 +1,138 @@
+-- What upper layers may know of the header. Assumes nothing.
+use Prim.Native.Nat.{ℕ, _+_, _≤_, _<_}
+use mathlib.Core.Path.{_≡_, refl, sym, ap, _∙_}
+use mathlib.Core.Bool.{Bool, true, _&&_}
+use mathlib.Core.Logic.{_↔_}
+use mathlib.Core.List.{List, [], _∷_}
+use native.Mathlib.Nat.{le-refl, zero-add}
+use native.Mathlib.Omega.{arith}
+use lib.Dec.{eqb, leb}
+use lib.ListN.{length}
+use borrow.Author.Tests.{leb-true, eqb-true, le-leb, eq-eqb}
+use Rattle.laws.proofs.Tests.{and-both, both-and}
+use Rattle.le.specs.Bytes.{littleEndian, byte, field, part}
+use Rattle.le.proofs.FieldLaws.{part-part, byte-part}
+use Rattle.crc.specs.Checksum.{checksum}
+use Rattle.refusal.specs.declared.Refusal.{Refusal}
+use Rattle.refusal.specs.declared.Verdict.the-variants.{Accepted, Refused}
+use Rattle.refusal.specs.Order.{_then_, inOrder, AllHold, none, both, FirstFault}
+use Rattle.refusal.proofs.OrderLaws.{demanded, then-left, accepted-exactly, refused-exactly, in-order-append}
+use Rattle.header.specs.Header.{lengthFits, magicFits, clientFits, versionFits, checksumFits, sentinelFits, encodingFits, markRules, sealRules, headerRules, headerFits, fileEnd}
+use Rattle.header.specs.Sound.{HeaderSound}
+
+pub long-enough : (image : List ℕ) → lengthFits image ≡ true → 564 ≤ length image
+unfolding lengthFits
+long-enough image e = leb-true 564 (length image) (and-both (leb 564 (length image)) (leb (length image) 1073741824) e .0)
+
+pub marks-long : (image : List ℕ) → inOrder (markRules image) ≡ Accepted → 564 ≤ length image
+unfolding markRules inOrder
+marks-long image e = long-enough image (demanded _ _ (then-left _ _ e))
+
+-- the marks, then the seals
+pub header-is : (image : List ℕ) → headerFits image ≡ (inOrder (markRules image) then inOrder (sealRules image))
+unfolding headerFits
+header-is image = in-order-append (markRules image) (sealRules image)
+
+-- the file ends inside the image
+pub end-inside : (image : List ℕ) → fileEnd image ≤ length image
+unfolding fileEnd
+end-inside image = le-refl (length image)
+
+four : (a b c d : Bool) → (a && b && c && d) ≡ true → (a ≡ true) × (b ≡ true) × (c ≡ true) × (d ≡ true)
+four a b c d e =
+    let x = and-both (a && b && c) d e in
+    let y = and-both (a && b) c (x .0) in
+    let z = and-both a b (y .0) in
+    (z .0, z .1, y .1, x .1)
+
+sound-of : (image : List ℕ) → AllHold (headerRules image) → HeaderSound image
+unfolding markRules sealRules lengthFits magicFits clientFits versionFits checksumFits sentinelFits encodingFits
+sound-of image (both l (both m (both c (both v (both p (both f (both s (both e none)))))))) =
+    let bounds = and-both (leb 564 (length image)) (leb (length image) 1073741824) l in
+    let marks = four (eqb (byte image 0) 0x21) (eqb (byte image 1) 0x42) (eqb (byte image 2) 0x44) (eqb (byte image 3) 0x4E) m in
+    let client = and-both (eqb (byte image 8) 0x53) (eqb (byte image 9) 0x4D) c in
+    record {
+      length-low = leb-true _ _ (bounds .0);
+      length-high = leb-true _ _ (bounds .1);
+      magic = (eqb-true _ _ (marks .0), eqb-true _ _ (marks .1), eqb-true _ _ (marks .2), eqb-true _ _ (marks .3));
+      client = (eqb-true _ _ (client .0), eqb-true _ _ (client .1));
+      version = eqb-true _ _ v;
+      partial = eqb-true _ _ p;
+      full = eqb-true _ _ f;
+      sentinel = eqb-true _ _ s;
+      encoding = leb-true _ _ e;
+    }
+
+holds-of : (image : List ℕ) → HeaderSound image → AllHold (headerRules image)
+unfolding markRules sealRules lengthFits magicFits clientFits versionFits checksumFits sentinelFits encodingFits
+holds-of image h =
+    both (both-and _ _ (le-leb _ _ (h .length-low)) (le-leb _ _ (h .length-high)))
+    (both (both-and _ _ (both-and _ _ (both-and _ _ (eq-eqb _ _ (h .magic .0)) (eq-eqb _ _ (h .magic .1))) (eq-eqb _ _ (h .magic .2))) (eq-eqb _ _ (h .magic .3)))
+    (both (both-and _ _ (eq-eqb _ _ (h .client .0)) (eq-eqb _ _ (h .client .1)))
+    (both (eq-eqb _ _ (h .version))
+    (both (eq-eqb _ _ (h .partial))
+    (both (eq-eqb _ _ (h .full))
+    (both (eq-eqb _ _ (h .sentinel))
+    (both (le-leb _ _ (h .encoding)) none)))))))
+
+-- the header is accepted exactly when each of its rules holds
+pub header-exactly : (image : List ℕ) → (headerFits image ≡ Accepted) ↔ HeaderSound image
+unfolding headerFits
+header-exactly image = (
+  (λ e. sound-of image (accepted-exactly (headerRules image) .0 e)),
+  (λ h. accepted-exactly (headerRules image) .1 (holds-of image h)),
+)
+
+-- a refusal names the first fault: its test fails, and each test before it holds
+pub header-first-fault : (image : List ℕ) (r : Refusal) → (headerFits image ≡ Refused r) ↔ FirstFault (headerRules image) r
+unfolding headerFits
+header-first-fault image r = refused-exactly (headerRules image) r
+
+-- an accepted image has a whole header
+pub header-length : (image : List ℕ) → headerFits image ≡ Accepted → 564 ≤ length image
+header-length image e = header-exactly image .0 e .length-low
+
+-- images that agree in length and in their first 564 bytes have the same header
+module _ (one other : List ℕ) (same : part one 0 564 ≡ part other 0 564) where
+  part-agrees : (place size : ℕ) → place + size ≤ 564 → part one place size ≡ part other place size
+  part-agrees place size h =
+      ap (λ (k : ℕ). part one k size) (sym (zero-add place)) ∙ sym (part-part one 0 564 place size h)
+      ∙ ap (λ (s : List ℕ). part s place size) same
+      ∙ part-part other 0 564 place size h ∙ ap (λ (k : ℕ). part other k size) (zero-add place)
+
+  byte-agrees : (place : ℕ) → place < 564 → byte one place ≡ byte other place
+  byte-agrees place h =
+      ap (byte one) (sym (zero-add place)) ∙ sym (byte-part one 0 564 place h)
+      ∙ ap (λ (s : List ℕ). byte s place) same
+      ∙ byte-part other 0 564 place h ∙ ap (byte other) (zero-add place)
+
+pub field-agrees : (one other : List ℕ) (place width : ℕ) → part one 0 564 ≡ part other 0 564 → place + width ≤ 564
+    → field one place width ≡ field other place width
+unfolding field
+field-agrees one other place width same h = ap littleEndian (part-agrees one other same place width h)
+
+pub end-agrees : (one other : List ℕ) → length one ≡ length other → part one 0 564 ≡ part other 0 564 → fileEnd one ≡ fileEnd other
+unfolding fileEnd
+end-agrees one other e same = e
+
+pub header-agrees : (one other : List ℕ) → length one ≡ length other → part one 0 564 ≡ part other 0 564 → headerFits one ≡ headerFits other
+unfolding headerFits markRules sealRules lengthFits magicFits clientFits versionFits checksumFits sentinelFits encodingFits
+header-agrees one other e same =
+    let b = byte-agrees one other same in
+    let f : (place width : ℕ) → place + width ≤ 564 → field one place width ≡ field other place width = λ place width h. field-agrees one other place width same h in
+    rw (
+      e,
+      b 0 (omega arith),
+      b 1 (omega arith),
+      b 2 (omega arith),
+      b 3 (omega arith),
+      b 8 (omega arith),
+      b 9 (omega arith),
+      b 512 (omega arith),
+      b 513 (omega arith),
+      f 10 2 (omega arith),
+      f 4 4 (omega arith),
+      f 524 4 (omega arith),
+      part-agrees one other same 8 471 (omega arith),
+      part-agrees one other same 8 516 (omega arith),
+    )

@@ -1,0 +1,155 @@
+// The header's tests, and what it says.
+use refusal::Fault;
+use refusal::Refusal;
+use refusal::Verdict;
+ghost use mathlib.Core.Path.{_≡_};
+ghost use Prim.Native.Nat.{_+_, _≤_};
+ghost use lib.ListN.{length};
+ghost use Rattle.refusal.specs.Order.{inOrder};
+ghost use Rattle.header.specs.Header.{lengthFits, magicFits, clientFits, versionFits, checksumFits, sentinelFits, encodingFits, markRules, sealRules, headerFits, referenceAt, headerOf, fileEnd};
+
+// A page as the header refers to it.
+pub struct Reference {
+    pub number: u64,
+    pub offset: u64,
+}
+
+pub struct Header {
+    pub method: u8,
+    pub nodes: Reference,
+    pub blocks: Reference,
+}
+
+pub enum HeaderAnswer {
+    Says(Header),
+    Refused(Refusal),
+}
+
+fn length_fits(image: &[u8]) -> bool
+    ensures { λ r. ⌜ r ≡ lengthFits (now (image .entry)) ⌝ }
+{
+    (564 <= image.len()) & (image.len() <= 1073741824)
+}
+
+fn magic_fits(image: &[u8]) -> bool
+    requires { ⌜ 564 ≤ length (now image) ⌝ }
+    ensures { λ r. ⌜ r ≡ magicFits (now (image .entry)) ⌝ }
+{
+    (image[0] == 0x21) & (image[1] == 0x42) & (image[2] == 0x44) & (image[3] == 0x4E)
+}
+
+fn client_fits(image: &[u8]) -> bool
+    requires { ⌜ 564 ≤ length (now image) ⌝ }
+    ensures { λ r. ⌜ r ≡ clientFits (now (image .entry)) ⌝ }
+{
+    (image[8] == 0x53) & (image[9] == 0x4D)
+}
+
+fn version_fits(image: &[u8]) -> bool
+    requires { ⌜ 564 ≤ length (now image) ⌝ }
+    ensures { λ r. ⌜ r ≡ versionFits (now (image .entry)) ⌝ }
+{
+    le::field2(image, 10) == 23
+}
+
+// The checksum of so many bytes from 8 stands at the place.
+fn checksum_fits(image: &[u8], place: usize, size: usize) -> bool
+    requires { ⌜ (564 ≤ length (now image)) × (place + 4 ≤ 564) × (8 + size ≤ 564) ⌝ }
+    ensures { λ r. ⌜ r ≡ checksumFits (now (image .entry)) place size ⌝ }
+{
+    le::field4(image, place) == crc::checksum(&image[8..8 + size])
+}
+
+fn sentinel_fits(image: &[u8]) -> bool
+    requires { ⌜ 564 ≤ length (now image) ⌝ }
+    ensures { λ r. ⌜ r ≡ sentinelFits (now (image .entry)) ⌝ }
+{
+    image[512] == 0x80
+}
+
+fn encoding_fits(image: &[u8]) -> bool
+    requires { ⌜ 564 ≤ length (now image) ⌝ }
+    ensures { λ r. ⌜ r ≡ encodingFits (now (image .entry)) ⌝ }
+{
+    image[513] <= 2
+}
+
+// The image's length, and the marks of the format and its version.
+fn check_marks(image: &[u8]) -> Verdict
+    ensures { λ r. ⌜ r ≡ inOrder (markRules (now (image .entry))) ⌝ }
+{
+    if !length_fits(image) {
+        return refusal::refused_at(Fault::ImageLength, 0);
+    }
+    if !magic_fits(image) {
+        return refusal::refused_at(Fault::Magic, 0);
+    }
+    if !client_fits(image) {
+        return refusal::refused_at(Fault::Magic, 8);
+    }
+    if !version_fits(image) {
+        return refusal::refused_at(Fault::Version, 10);
+    }
+    Verdict::Accepted
+}
+
+// The two checksums, the sentinel and the encoding method.
+fn check_seals(image: &[u8]) -> Verdict
+    requires { ⌜ 564 ≤ length (now image) ⌝ }
+    ensures { λ r. ⌜ r ≡ inOrder (sealRules (now (image .entry))) ⌝ }
+{
+    if !checksum_fits(image, 4, 471) {
+        return refusal::refused_at(Fault::HeaderChecksum, 4);
+    }
+    if !checksum_fits(image, 524, 516) {
+        return refusal::refused_at(Fault::HeaderChecksum, 524);
+    }
+    if !sentinel_fits(image) {
+        return refusal::refused_at(Fault::Encoding, 512);
+    }
+    if !encoding_fits(image) {
+        return refusal::refused_at(Fault::Encoding, 513);
+    }
+    Verdict::Accepted
+}
+
+pub fn check_header(image: &[u8]) -> Verdict
+    ensures { λ r. ⌜ r ≡ headerFits (now (image .entry)) ⌝ }
+{
+    let verdict = check_marks(image);
+    let Verdict::Accepted = verdict else {
+        return verdict;
+    };
+    check_seals(image)
+}
+
+fn reference_at(image: &[u8], place: usize) -> Reference
+    requires { ⌜ place + 16 ≤ length (now image) ⌝ }
+    ensures { λ r. ⌜ r ≡ referenceAt (now (image .entry)) place ⌝ }
+{
+    let number = le::field8(image, place);
+    let offset = le::field8(image, place + 8);
+    Reference { number, offset }
+}
+
+pub fn header_of(image: &[u8]) -> HeaderAnswer
+    ensures { λ r. ⌜ r ≡ headerOf (now (image .entry)) ⌝ }
+{
+    let verdict = check_header(image);
+    if let Verdict::Refused(refusal) = verdict {
+        return HeaderAnswer::Refused(refusal);
+    }
+    let nodes = reference_at(image, 216);
+    let blocks = reference_at(image, 232);
+    HeaderAnswer::Says(Header {
+        method: image[513],
+        nodes,
+        blocks,
+    })
+}
+
+pub fn file_end(image: &[u8]) -> u64
+    ensures { λ r. ⌜ r ≡ fileEnd (now (image .entry)) ⌝ }
+{
+    image.len() as u64
+}

@@ -1,0 +1,162 @@
+-- What upper layers may know of a page, and what the functions' proofs share. Assumes nothing.
+use Prim.Native.Nat.{ℕ, zero, suc, _+_, _*_, _-_, _%_, _≤_, _<_}
+use mathlib.Core.Path.{_≡_, refl, sym, ap, _∙_}
+use mathlib.Core.Bool.{Bool, true, false, _&&_, _||_}
+use mathlib.Core.List.{List, [], _∷_, map}
+use mathlib.Core.Logic.{⊎-elim}
+use native.Mathlib.Nat.{mod-eq-of-lt, add-sub-cancel-left, le-trans, mul-le-mul-right}
+use native.Mathlib.Omega.{arith}
+use lib.Dec.{leb, eqb}
+use lib.ListN.{length, take, drop}
+use borrow.Author.Tests.{leb-true, leb-false, eqb-true, le-leb, lt-leb}
+use Rattle.laws.proofs.Tests.{and-both}
+use Rattle.le.specs.Bytes.{part}
+use Rattle.le.proofs.FieldLaws.{part-length}
+use Rattle.refusal.specs.declared.Verdict.the-variants.{Accepted, Refused}
+use Rattle.refusal.specs.declared.Fault.the-variants.{PageOffset}
+use Rattle.refusal.specs.Order.{_at_, Rule, inOrder, AllHold, none, both}
+use Rattle.refusal.proofs.OrderLaws.{test-goes, test-ends, accepted-exactly}
+use Rattle.keys.specs.declared.Shape.{Shape}
+use Rattle.keys.specs.declared.Order.{Order}
+use Rattle.keys.specs.declared.Order.the-variants.{Climbing, Unordered, Outside}
+use Rattle.keys.specs.Records.{keyOf, records, keysOf, Holds}
+use Rattle.keys.specs.Range.{ordered}
+use Rattle.header.specs.Header.{fileEnd}
+use Rattle.header.proofs.HeaderLaws.{end-inside}
+use Rattle.page.specs.declared.Layout.{Layout}
+use Rattle.page.specs.declared.Level.{Level}
+use Rattle.page.specs.declared.Level.the-variants.{AtRoot, Exactly}
+use Rattle.page.specs.declared.Link.{Link}
+use Rattle.page.specs.Layout.{compared, entrySize, mostRoom, shape, Fair}
+use Rattle.page.specs.Page.{page, countOf, roomOf, sizeOf, levelOf, entries, keyIn, offsetFits, kindFits, numberFits, checksumFits, levelFits, mayBeEmpty, countsFit, climbs, keysFit, bytesRules, pageRules, pageFits}
+
+-- what is compared of a key sought
+pub compared-whole : (L : Layout) (key : ℕ) → L .sought ≡ 8 → key < 18446744073709551616 → key ≡ compared L key
+unfolding compared
+compared-whole L key e h = rw e (sym (mod-eq-of-lt h))
+
+pub compared-low : (L : Layout) (key : ℕ) → (L .sought ≡ 8 → ⊥) → Fair L → key % 4294967296 ≡ compared L key
+unfolding compared
+compared-low L key n fair = ⊎-elim (λ (e : L .sought ≡ 4). rw e) (λ (e : L .sought ≡ 8). absurd (n e)) (fair .sought)
+
+-- a sum compared without being made
+pub ends-late : (offset size end : ℕ) → end < offset → false ≡ leb (offset + size) end
+ends-late offset size end h = sym (lt-leb (offset + size) end (omega arith))
+
+pub ends-same : (offset size end : ℕ) → offset ≤ end → leb size (end - offset) ≡ leb (offset + size) end
+ends-same offset size end h = by (leb size (end - offset)) refl
+  where
+    by : (b : Bool) → leb size (end - offset) ≡ b → b ≡ leb (offset + size) end
+    by true e = let w = leb-true size (end - offset) e in sym (le-leb (offset + size) end (omega arith))
+    by false e = let w = leb-false size (end - offset) e in sym (lt-leb (offset + size) end (omega arith))
+
+-- a page whose offset is allowed lies in the image
+pub offset-inside : (image : List ℕ) (offset : ℕ) → offsetFits image offset ≡ true → offset + 512 ≤ length image
+unfolding offsetFits
+offset-inside image offset e =
+    le-trans
+    (leb-true (offset + 512) (fileEnd image) (and-both (eqb (offset % 64) 0 && leb 17408 offset) (leb (offset + 512) (fileEnd image)) e .1))
+    (end-inside image)
+
+pub page-part : (image : List ℕ) (offset : ℕ) → take (offset + 512 - offset) (drop offset image) ≡ page image offset
+unfolding page part
+page-part image offset = rw add-sub-cancel-left
+
+pub page-length : (image : List ℕ) (offset : ℕ) → offset + 512 ≤ length image → length (page image offset) ≡ 512
+unfolding page
+page-length image offset h = part-length image offset 512 h
+
+-- index pages are those of a level above 0
+pub index-size : (L : Layout) (level : ℕ) → (level ≡ 0 → ⊥) → L .indexsize ≡ entrySize L level
+unfolding entrySize
+index-size L zero h = absurd (h refl)
+index-size L (suc l) h = refl
+
+pub index-room : (L : Layout) (level : ℕ) → (level ≡ 0 → ⊥) → L .indexroom ≡ mostRoom L level
+unfolding mostRoom
+index-room L zero h = absurd (h refl)
+index-room L (suc l) h = refl
+
+-- each part of test 10
+pub record Counts (L : Layout) (p : Link) (g : List ℕ) : Type 0 where
+  pub level : levelFits (p .level) (levelOf L g) ≡ true
+  pub size : sizeOf L g ≡ entrySize L (levelOf L g)
+  pub room : roomOf L g ≤ mostRoom L (levelOf L g)
+  pub count : countOf L g ≤ roomOf L g
+  pub some : (leb 1 (countOf L g) || mayBeEmpty (p .level) (levelOf L g)) ≡ true
+
+pub counts-of : (L : Layout) (p : Link) (g : List ℕ) → countsFit L p g ≡ true → Counts L p g
+unfolding countsFit
+counts-of L p g e =
+    let a = levelFits (p .level) (levelOf L g) in
+    let b = eqb (sizeOf L g) (entrySize L (levelOf L g)) in
+    let r = leb (roomOf L g) (mostRoom L (levelOf L g)) in
+    let n = leb (countOf L g) (roomOf L g) in
+    let x = and-both (a && b && r && n) _ e in
+    let y = and-both (a && b && r) n (x .0) in
+    let z = and-both (a && b) r (y .0) in
+    let w = and-both a b (z .0) in
+    record { level = w .0; size = eqb-true _ _ (w .1); room = leb-true _ _ (z .1); count = leb-true _ _ (y .1); some = x .1 }
+
+-- the entries of a page whose counts fit lie in the page
+sized : (L : Layout) → Fair L → (l : ℕ) → (mostRoom L l * entrySize L l ≤ 512) × (L .word * 3 ≤ entrySize L l) × (mostRoom L l ≤ 255)
+unfolding mostRoom entrySize
+sized L f zero = (f .leafroom, f .leafsize, f .fewleaf)
+sized L f (suc l) = (f .indexroom, f .indexsize, f .fewindex)
+
+module _ (L : Layout) (p : Link) (g : List ℕ) (fair : Fair L) (ok : countsFit L p g ≡ true) where
+  few-enough : countOf L g ≤ mostRoom L (levelOf L g)
+  few-enough = let c = counts-of L p g ok in le-trans (c .count) (c .room)
+
+  pub few : countOf L g ≤ 255
+  few = le-trans few-enough (sized L fair (levelOf L g) .2)
+
+  pub words-inside : L .word * 3 ≤ entrySize L (levelOf L g)
+  words-inside = sized L fair (levelOf L g) .1
+
+  pub entries-held : length g ≡ 512 → Holds (shape L (levelOf L g)) (countOf L g) g
+  unfolding shape
+  entries-held h =
+      record {
+        inside = omega (arith, mul-le-mul-right {m = countOf L g} {n = mostRoom L (levelOf L g)} (entrySize L (levelOf L g)) few-enough, sized L fair (levelOf L g) .0);
+        key = omega (arith, sized L fair (levelOf L g) .1, fair .key);
+        word = omega (arith, fair .key, fair .word);
+      }
+
+-- the key of an entry does not depend on the level of its page
+pub keys-of-entries : (L : Layout) (g : List ℕ) → keysOf (shape L (levelOf L g)) (countOf L g) g ≡ map (keyIn L) (entries L g)
+unfolding keysOf keyOf keyIn entries shape
+keys-of-entries L g = refl
+
+pub climbing : (o : Order) → climbs o ≡ true → o ≡ Climbing
+unfolding climbs
+climbing Climbing e = refl
+climbing (Unordered i) e = cc
+climbing (Outside i) e = cc
+
+-- a page's tests: 6, then those of its bytes
+pub page-goes : (L : Layout) (image : List ℕ) (p : Link) → offsetFits image (p .offset) ≡ true → inOrder (bytesRules L p (page image (p .offset))) ≡ pageFits L image p
+unfolding pageFits pageRules inOrder
+page-goes L image p e = sym (test-goes Refused _ _ _ e)
+
+pub page-ends : (L : Layout) (image : List ℕ) (p : Link) → offsetFits image (p .offset) ≡ false → Refused (PageOffset at p .offset) ≡ pageFits L image p
+unfolding pageFits pageRules inOrder
+page-ends L image p e = sym (test-ends Refused _ _ (inOrder (bytesRules L p (page image (p .offset)))) e)
+
+-- an accepted page: its counts fit, and its keys climb
+pub all-of-page : (L : Layout) (image : List ℕ) (p : Link) → pageFits L image p ≡ Accepted → AllHold (pageRules L image p)
+unfolding pageFits
+all-of-page L image p e = accepted-exactly (pageRules L image p) .0 e
+
+pub page-offset : (L : Layout) (image : List ℕ) (p : Link) → AllHold (pageRules L image p) → p .offset + 512 ≤ length image
+unfolding pageRules
+page-offset L image p (both o h) = offset-inside image (p .offset) o
+
+pub page-counts : (L : Layout) (image : List ℕ) (p : Link) → AllHold (pageRules L image p) → countsFit L p (page image (p .offset)) ≡ true
+unfolding pageRules bytesRules
+page-counts L image p (both o (both k (both n (both c (both t (both s none)))))) = t
+
+pub page-keys : (L : Layout) (image : List ℕ) (p : Link) → AllHold (pageRules L image p)
+    → ordered (p .range) (map (keyIn L) (entries L (page image (p .offset)))) ≡ Climbing
+unfolding pageRules bytesRules keysFit
+page-keys L image p (both o (both k (both n (both c (both t (both s none)))))) = climbing _ s

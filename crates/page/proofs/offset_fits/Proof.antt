@@ -1,0 +1,11 @@
+use Rattle.page.specs.Page.{offsetFits}
+use borrow.Author.Needs.{needs}
+use Rattle.page.proofs.offset_fits.Statement.{statement}
+use Rattle.page.proofs.offset_fits.Tie as tie
+
+returns : tie.Need-returns
+unfolding offsetFits
+returns c = rw (c .ends-by .ensures, c .before .file-end .ensures)
+
+pub offset-fits-spec : {M : Type 1} → statement M
+offset-fits-spec = tie.close (tie.spec (λ c κs. search needs) (λ c κs. search needs) returns)

@@ -1,0 +1,315 @@
+// One page: its tests 6 to 11, and its entries, over a layout.
+use keys::End;
+use keys::Order;
+use keys::Range;
+use keys::Shape;
+use refusal::Fault;
+use refusal::Verdict;
+ghost use mathlib.Core.Path.{_≡_};
+ghost use mathlib.Core.Bool.{true};
+ghost use Prim.Native.Nat.{_+_, _*_, _%_, _^_, _≤_, _<_};
+ghost use lib.Dec.{leb};
+ghost use lib.ListN.{length};
+ghost use Rattle.le.specs.Bytes.{byte};
+ghost use Rattle.refusal.specs.Order.{inOrder};
+ghost use Rattle.page.specs.Layout.{nbt, bbt, Fair, compared as comparedOf, entrySize, mostRoom, shape};
+ghost use Rattle.page.specs.Page.{signature as signatureOf, offsetFits, kindFits, numberFits, checksumFits, levelFits, mayBeEmpty, countsFit, climbs, keysFit, bytesRules, pageFits};
+
+// The bytes of an entry that hold one of its numbers.
+pub struct Column {
+    pub place: usize,
+    pub width: usize,
+}
+
+// What differs between the two trees, and between editions of the format.
+pub struct Layout {
+    // the place of the root reference in the header
+    pub root: usize,
+    // the width of a page number and of an offset
+    pub word: usize,
+    // how many bytes of an entry's key, and of a key sought, are compared
+    pub key: usize,
+    pub sought: usize,
+    // the kind byte
+    pub kind: u8,
+    // places in the page: count, room, entry size and level; the kind bytes, before which the
+    // checksum ends; the checksum; the page number
+    pub counts: usize,
+    pub trailer: usize,
+    pub checksum: usize,
+    pub number: usize,
+    // entry size and most room, in leaf and in index pages
+    pub leafsize: usize,
+    pub leafroom: usize,
+    pub indexsize: usize,
+    pub indexroom: usize,
+    // a leaf entry's numbers, without its padding
+    pub first: Column,
+    pub second: Column,
+    pub third: Column,
+    pub fourth: Column,
+}
+
+// The level that a page must have.
+pub enum Level {
+    AtRoot,
+    Exactly(usize),
+}
+
+// A page as it is referred to.
+pub struct Link {
+    pub number: u64,
+    pub offset: u64,
+    pub level: Level,
+    pub range: Range,
+}
+
+// The node tree of the 64-bit edition.
+pub fn nodes() -> Layout
+    ensures { λ r. ⌜ r ≡ nbt ⌝ }
+{
+    Layout {
+        root: 216,
+        word: 8,
+        key: 4,
+        sought: 4,
+        kind: 0x81,
+        counts: 488,
+        trailer: 496,
+        checksum: 500,
+        number: 504,
+        leafsize: 32,
+        leafroom: 15,
+        indexsize: 24,
+        indexroom: 20,
+        first: Column { place: 0, width: 4 },
+        second: Column { place: 8, width: 8 },
+        third: Column {
+            place: 16,
+            width: 8,
+        },
+        fourth: Column {
+            place: 24,
+            width: 4,
+        },
+    }
+}
+
+// The block tree of the 64-bit edition.
+pub fn blocks() -> Layout
+    ensures { λ r. ⌜ r ≡ bbt ⌝ }
+{
+    Layout {
+        root: 232,
+        word: 8,
+        key: 8,
+        sought: 8,
+        kind: 0x80,
+        counts: 488,
+        trailer: 496,
+        checksum: 500,
+        number: 504,
+        leafsize: 24,
+        leafroom: 20,
+        indexsize: 24,
+        indexroom: 20,
+        first: Column { place: 0, width: 8 },
+        second: Column { place: 8, width: 8 },
+        third: Column {
+            place: 16,
+            width: 2,
+        },
+        fourth: Column {
+            place: 18,
+            width: 2,
+        },
+    }
+}
+
+// What is compared of a key sought.
+pub fn compared(l: Layout, key: u64) -> u64
+    requires { ⌜ Fair l ⌝ }
+    ensures { λ r. ⌜ r ≡ comparedOf l key ⌝ }
+{
+    if l.sought == 8 {
+        return key;
+    }
+    key % 4294967296
+}
+
+// A byte as a count.
+pub fn count_at(page: &[u8], place: usize) -> usize
+    requires { ⌜ place < length (now page) ⌝ }
+    ensures { λ r. ⌜ (r ≡ byte (now (page .entry)) place) × (r < 256) ⌝ }
+{
+    page[place] as usize
+}
+
+pub fn signature(offset: u64, number: u64) -> u16
+    ensures { λ r. ⌜ r ≡ signatureOf offset number ⌝ }
+{
+    let x = offset ^ number;
+    ((x % 65536) as u16) ^ ((x / 65536 % 65536) as u16)
+}
+
+// Whether so many bytes from the offset end at `end` at the latest, as a sum that never wraps.
+pub fn ends_by(offset: u64, size: u64, end: u64) -> bool
+    ensures { λ r. ⌜ r ≡ leb (offset + size) end ⌝ }
+{
+    if end < offset {
+        return false;
+    }
+    size <= end - offset
+}
+
+// Test 6.
+pub fn offset_fits(image: &[u8], offset: u64) -> bool
+    ensures { λ r. ⌜ r ≡ offsetFits (now (image .entry)) offset ⌝ }
+{
+    (offset % 64 == 0) & (17408 <= offset) & ends_by(offset, 512, header::file_end(image))
+}
+
+// Test 7.
+fn kind_fits(l: Layout, page: &[u8]) -> bool
+    requires { ⌜ Fair l × (length (now page) ≡ 512) ⌝ }
+    ensures { λ r. ⌜ r ≡ kindFits l (now (page .entry)) ⌝ }
+{
+    let place = l.trailer;
+    let kind = l.kind;
+    (le::byte_at(page, place) == kind) & (le::byte_at(page, place + 1) == kind)
+}
+
+// Test 8.
+fn number_fits(l: Layout, p: Link, page: &[u8]) -> bool
+    requires { ⌜ Fair l × (length (now page) ≡ 512) ⌝ }
+    ensures { λ r. ⌜ r ≡ numberFits l p (now (page .entry)) ⌝ }
+{
+    let number = p.number;
+    (le::field_of(page, l.number, l.word) == number)
+        & (le::field2(page, l.trailer + 2) == signature(p.offset, number))
+}
+
+// Test 9.
+fn checksum_fits(l: Layout, page: &[u8]) -> bool
+    requires { ⌜ Fair l × (length (now page) ≡ 512) ⌝ }
+    ensures { λ r. ⌜ r ≡ checksumFits l (now (page .entry)) ⌝ }
+{
+    let end = l.trailer;
+    le::field4(page, l.checksum) == crc::checksum(&page[..end])
+}
+
+fn level_fits(want: Level, level: usize) -> bool
+    ensures { λ r. ⌜ r ≡ levelFits want level ⌝ }
+{
+    match want {
+        Level::AtRoot => level <= 7,
+        Level::Exactly(exact) => level == exact,
+    }
+}
+
+fn may_be_empty(want: Level, level: usize) -> bool
+    ensures { λ r. ⌜ r ≡ mayBeEmpty want level ⌝ }
+{
+    match want {
+        Level::AtRoot => level == 0,
+        Level::Exactly(_) => false,
+    }
+}
+
+pub fn entry_size(l: Layout, level: usize) -> usize
+    ensures { λ r. ⌜ r ≡ entrySize l level ⌝ }
+{
+    if level == 0 { l.leafsize } else { l.indexsize }
+}
+
+fn most_room(l: Layout, level: usize) -> usize
+    ensures { λ r. ⌜ r ≡ mostRoom l level ⌝ }
+{
+    if level == 0 { l.leafroom } else { l.indexroom }
+}
+
+// The shape of the entries of a page of this level.
+pub fn shape_of(l: Layout, level: usize) -> Shape
+    ensures { λ r. ⌜ r ≡ shape l level ⌝ }
+{
+    let size = entry_size(l, level);
+    Shape { size, width: l.key }
+}
+
+// Test 10.
+fn counts_fit(l: Layout, p: Link, page: &[u8]) -> bool
+    requires { ⌜ Fair l × (length (now page) ≡ 512) ⌝ }
+    ensures { λ r. ⌜ r ≡ countsFit l p (now (page .entry)) ⌝ }
+{
+    let place = l.counts;
+    let count = count_at(page, place);
+    let room = count_at(page, place + 1);
+    let size = count_at(page, place + 2);
+    let level = count_at(page, place + 3);
+    let want = p.level;
+    level_fits(want, level)
+        & (size == entry_size(l, level))
+        & (room <= most_room(l, level))
+        & (count <= room)
+        & ((1 <= count) | may_be_empty(want, level))
+}
+
+fn is_climbing(order: Order) -> bool
+    ensures { λ r. ⌜ r ≡ climbs order ⌝ }
+{
+    match order {
+        Order::Climbing => true,
+        Order::Unordered(_) => false,
+        Order::Outside(_) => false,
+    }
+}
+
+// Test 11.
+fn keys_fit(l: Layout, p: Link, page: &[u8]) -> bool
+    requires { ⌜ Fair l × (length (now page) ≡ 512) × (countsFit l p (now page) ≡ true) ⌝ }
+    ensures { λ r. ⌜ r ≡ keysFit l p (now (page .entry)) ⌝ }
+{
+    let place = l.counts;
+    let count = count_at(page, place);
+    let shape = shape_of(l, count_at(page, place + 3));
+    let range = p.range;
+    let order = keys::check_keys(page, shape, count, range);
+    is_climbing(order)
+}
+
+// Tests 7 to 11, of a page's bytes.
+fn check_bytes(l: Layout, p: Link, page: &[u8]) -> Verdict
+    requires { ⌜ Fair l × (length (now page) ≡ 512) ⌝ }
+    ensures { λ r. ⌜ r ≡ inOrder (bytesRules l p (now (page .entry))) ⌝ }
+{
+    let offset = p.offset;
+    if !kind_fits(l, page) {
+        return refusal::refused_at(Fault::PageKind, offset);
+    }
+    if !number_fits(l, p, page) {
+        return refusal::refused_at(Fault::PageNumber, offset);
+    }
+    if !checksum_fits(l, page) {
+        return refusal::refused_at(Fault::PageChecksum, offset);
+    }
+    if !counts_fit(l, p, page) {
+        return refusal::refused_at(Fault::PageCounts, offset);
+    }
+    if !keys_fit(l, p, page) {
+        return refusal::refused_at(Fault::PageKeys, offset);
+    }
+    Verdict::Accepted
+}
+
+// The page check: test 6, and the others of the part of the image from the offset for 512 bytes.
+pub fn check_page(image: &[u8], l: Layout, p: Link) -> Verdict
+    requires { ⌜ Fair l ⌝ }
+    ensures { λ r. ⌜ r ≡ pageFits l (now (image .entry)) p ⌝ }
+{
+    let offset = p.offset;
+    if !offset_fits(image, offset) {
+        return refusal::refused_at(Fault::PageOffset, offset);
+    }
+    let at = offset as usize;
+    check_bytes(l, p, &image[at..at + 512])
+}

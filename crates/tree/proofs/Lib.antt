@@ -1,0 +1,9 @@
+pub mod Children
+pub mod Walk
+pub mod Looks
+pub mod Accepted
+pub mod Descent
+pub mod Routes
+pub mod Demand3
+pub mod Exactly
+pub mod OffPath

@@ -1,0 +1,68 @@
+use Prim.Native.Nat.{ℕ, _+_, _*_, _-_}
+use mathlib.Core.Path.{_≡_, refl, sym, ap, _∙_}
+use native.Mathlib.Omega.{arith}
+use lib.ListN.{length}
+use Rattle.tree.proofs.Children.{link-is}
+use Rattle.keys.proofs.RecordLaws.{recordsFrom, holds-fewer, record-inside}
+use Rattle.tree.specs.Tree.{endOf}
+use borrow.Author.Needs.{needs}
+use Rattle.tree.proofs.link_at.Statement.{statement}
+use Rattle.tree.proofs.link_at.Tie as tie
+
+mul-place : tie.Need-mul-place
+mul-place c =
+    let a = c .before .before .args in
+    omega (arith, record-inside (a .count) (a .shape .size) (a .i) (length (a .page .now)) (c .before .before .pre .0 .inside) (c .before .before .pre .4))
+
+add-field-of : tie.Need-add-field-of
+add-field-of c =
+    let a = c .before .before .args in
+    omega (arith, record-inside (a .count) (a .shape .size) (a .i) (length (a .page .now)) (c .before .before .pre .0 .inside) (c .before .before .pre .4))
+
+field-of-requires : tie.Need-field-of-requires
+field-of-requires c κs =
+    let a = c .before .before .args in
+    omega (arith, record-inside (a .count) (a .shape .size) (a .i) (length (a .page .now)) (c .before .before .pre .0 .inside) (c .before .before .pre .4))
+
+add-field-of-2 : tie.Need-add-field-of-2
+add-field-of-2 c =
+    let a = c .before .before .before .args in
+    omega (arith, record-inside (a .count) (a .shape .size) (a .i) (length (a .page .now)) (c .before .before .before .pre .0 .inside) (c .before .before .before .pre .4))
+
+add-field-of-3 : tie.Need-add-field-of-3
+add-field-of-3 c =
+    let a = c .before .before .before .args in
+    omega (arith, record-inside (a .count) (a .shape .size) (a .i) (length (a .page .now)) (c .before .before .before .pre .0 .inside) (c .before .before .before .pre .4))
+
+field-of-requires-2 : tie.Need-field-of-requires-2
+field-of-requires-2 c κs =
+    let a = c .before .before .before .args in
+    omega (arith, record-inside (a .count) (a .shape .size) (a .i) (length (a .page .now)) (c .before .before .before .pre .0 .inside) (c .before .before .before .pre .4))
+
+key-at-requires : tie.Need-key-at-requires
+key-at-requires c κs =
+    let a = c .before .before .before .before .args in
+    holds-fewer (a .shape) (a .count) (a .i + 1) (a .page .now) (omega arith) (c .before .before .before .before .pre .0)
+
+returns : tie.Need-returns
+returns c =
+    let a = c .before .before .before .before .before .before .args in
+    rw (c .end-at .ensures)
+    (link-is (a .l) (a .shape) (a .page .now) (a .i) (a .level) (c .before .before .before .field-of .result) (c .before .before .field-of2 .result) (c .before .key-at .result)
+    (endOf (a .l) (a .to) (recordsFrom (a .shape) (a .count) (a .page .now) (a .i + 1)))
+    (c .before .before .before .before .before .before .pre .1) (c .before .before .before .before .before .before .pre .2) (c .before .before .before .field-of .ensures .0) (c .before .before .field-of2 .ensures .0) (c .before .key-at .ensures))
+
+pub link-at-spec : {M : Type 1} → statement M
+link-at-spec =
+    tie.close
+    (tie.spec
+    mul-place
+    add-field-of
+    field-of-requires
+    add-field-of-2
+    add-field-of-3
+    field-of-requires-2
+    key-at-requires
+    (λ c. search needs)
+    (λ c κs. search needs)
+    returns)

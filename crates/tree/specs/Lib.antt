@@ -1,0 +1,5 @@
+pub mod Tree
+pub mod Lookup
+pub mod Answers
+pub mod Demand3
+pub mod Sound

@@ -1,0 +1,386 @@
+// The whole-tree check and the lookup of a key, over any layout; and the calls for the two trees.
+use keys::End;
+use keys::Range;
+use keys::Seat;
+use keys::Shape;
+use page::Column;
+use page::Layout;
+use page::Level;
+use page::Link;
+use refusal::Refusal;
+use refusal::Verdict;
+ghost use mathlib.Core.Path.{_≡_};
+ghost use mathlib.Core.Bool.{true};
+ghost use Prim.Native.Nat.{_+_, _*_, _≤_, _<_};
+ghost use lib.ListN.{length};
+ghost use Rattle.le.specs.Bytes.{part};
+ghost use Rattle.keys.specs.Records.{Holds, recordAt};
+ghost use Rattle.keys.specs.Search.{withKey, choice};
+ghost use Rattle.keys.proofs.RecordLaws.{recordsFrom};
+ghost use Rattle.page.specs.Layout.{Fair, Within, nbt, bbt, shape};
+ghost use Rattle.page.specs.Page.{page, countOf, levelOf, entries, keyIn, offsetFits, countsFit, pageFits};
+ghost use Rattle.tree.specs.Tree.{root, endOf, linkOf, links, children, each, under, treeFits};
+ghost use Rattle.tree.specs.Lookup.{low, answer, descend, lookup};
+ghost use Rattle.tree.specs.Answers.{columnOf, fieldsOf, shown, asNode, nodeOf, asBlock, blockOf, counted, childrenFrom, nextOf, nextIn, LevelIs};
+
+// A leaf entry's numbers, without its padding.
+pub struct Fields {
+    pub first: u64,
+    pub second: u64,
+    pub third: u64,
+    pub fourth: u64,
+}
+
+// An entry and the count of pages read; absent, with that count; or the refusal.
+pub enum Found {
+    Entry(Fields, u64),
+    Absent(u64),
+    Refused(Refusal),
+}
+
+// A node as its tree lists it: its number, data block, subnode block and parent.
+pub struct Node {
+    pub node: u64,
+    pub block: u64,
+    pub subnode: u64,
+    pub parent: u64,
+}
+
+pub enum FoundNode {
+    Found(Node, u64),
+    Absent(u64),
+    Refused(Refusal),
+}
+
+// A block as its tree lists it.
+pub struct Listed {
+    pub block: u64,
+    pub offset: u64,
+    pub size: u64,
+    pub references: u64,
+}
+
+pub enum FoundBlock {
+    Found(Listed, u64),
+    Absent(u64),
+    Refused(Refusal),
+}
+
+// A child, or none.
+pub enum Next {
+    Here(Link),
+    NoMore,
+}
+
+// Where the range of the child before the i-th entry ends.
+fn end_at(l: Layout, page: &[u8], shape: Shape, count: usize, i: usize, to: End) -> End
+    requires { ⌜ Holds shape count (now page) × (shape .width ≡ l .key) ⌝ }
+    ensures { λ r. ⌜ r ≡ endOf l to (recordsFrom shape count (now (page .entry)) i) ⌝ }
+{
+    if count <= i {
+        return to;
+    }
+    End::Before(keys::key_at(page, shape, i))
+}
+
+// The child of the i-th entry.
+fn link_at(
+    l: Layout,
+    page: &[u8],
+    shape: Shape,
+    count: usize,
+    level: usize,
+    to: End,
+    i: usize,
+) -> Link
+    requires { ⌜ Holds shape count (now page) × (shape .width ≡ l .key) × (l .word * 3 ≤ shape .size) × (l .word ≤ 8) × (i < count) × (count ≤ 255) ⌝ }
+    ensures { λ r. ⌜ r ≡ linkOf l level (endOf l to (recordsFrom shape count (now (page .entry)) (i + 1))) (recordAt shape (now (page .entry)) i) ⌝ }
+{
+    let word = l.word;
+    let place = i * shape.size;
+    let number = le::field_of(page, place + word, word);
+    let offset = le::field_of(page, place + word + word, word);
+    let from = keys::key_at(page, shape, i);
+    let end = end_at(l, page, shape, count, i + 1, to);
+    Link {
+        number,
+        offset,
+        level: Level::Exactly(level),
+        range: Range { from, to: end },
+    }
+}
+
+// The child of the i-th entry of a page whose counts fit, if there is such an entry.
+fn next_link(l: Layout, page: &[u8], level: usize, p: Link, i: usize) -> Next
+    requires { ⌜ Fair l × (length (now page) ≡ 512) × (countsFit l p (now page) ≡ true) ⌝ }
+    ensures { λ r. ⌜ r ≡ nextOf (links l level (p .range .to) (recordsFrom (shape l (levelOf l (now (page .entry)))) (countOf l (now (page .entry))) (now (page .entry)) i)) ⌝ }
+{
+    let place = l.counts;
+    let count = page::count_at(page, place);
+    if count <= i {
+        return Next::NoMore;
+    }
+    let shape = page::shape_of(l, page::count_at(page, place + 3));
+    let range = p.range;
+    let to = range.to;
+    let child = link_at(l, page, shape, count, level, to, i);
+    Next::Here(child)
+}
+
+// The same in an image, of an accepted page.
+fn child_at(image: &[u8], l: Layout, level: usize, p: Link, i: usize) -> Next
+    requires { ⌜ Fair l × (pageFits l (now image) p ≡ Verdict.Accepted) ⌝ }
+    ensures { λ r. ⌜ r ≡ nextOf (childrenFrom l (now (image .entry)) level p i) ⌝ }
+{
+    let at = p.offset as usize;
+    next_link(l, &image[at..at + 512], level, p, i)
+}
+
+// The check of a page of a level and of everything under it.
+fn check_under(image: &[u8], l: Layout, level: usize, p: Link) -> Verdict
+    requires { ⌜ Fair l ⌝ }
+    ensures { λ r. ⌜ r ≡ under l (now (image .entry)) level p ⌝ }
+{
+    let verdict = page::check_page(image, l, p);
+    let Verdict::Accepted = verdict else {
+        return verdict;
+    };
+    if level == 0 {
+        return Verdict::Accepted;
+    }
+    check_children(image, l, level - 1, p, 0)
+}
+
+// The check of an accepted page's children, from the i-th on, each with everything under it.
+fn check_children(image: &[u8], l: Layout, level: usize, p: Link, i: usize) -> Verdict
+    requires { ⌜ Fair l × (pageFits l (now image) p ≡ Verdict.Accepted) × (i ≤ 255) ⌝ }
+    ensures { λ r. ⌜ r ≡ each (under l (now (image .entry)) level) (childrenFrom l (now (image .entry)) level p i) ⌝ }
+{
+    let next = child_at(image, l, level, p, i);
+    let Next::Here(child) = next else {
+        return Verdict::Accepted;
+    };
+    let verdict = check_under(image, l, level, child);
+    let Verdict::Accepted = verdict else {
+        return verdict;
+    };
+    check_children(image, l, level, p, i + 1)
+}
+
+// The chosen child of a page whose counts fit: that of the last entry whose key is at most the key sought.
+fn choose(l: Layout, page: &[u8], level: usize, p: Link, key: u64) -> Next
+    requires { ⌜ Fair l × (length (now page) ≡ 512) × (countsFit l p (now page) ≡ true) ⌝ }
+    ensures { λ r. ⌜ r ≡ nextIn (choice low key (links l level (p .range .to) (entries l (now (page .entry))))) ⌝ }
+{
+    let place = l.counts;
+    let count = page::count_at(page, place);
+    let shape = page::shape_of(l, page::count_at(page, place + 3));
+    let seat = keys::last_at_most(page, shape, count, key);
+    let Seat::At(i) = seat else {
+        return Next::NoMore;
+    };
+    let range = p.range;
+    let to = range.to;
+    let child = link_at(l, page, shape, count, level, to, i);
+    Next::Here(child)
+}
+
+// The same in an image, of an accepted page.
+fn child_for(image: &[u8], l: Layout, level: usize, p: Link, key: u64) -> Next
+    requires { ⌜ Fair l × (pageFits l (now image) p ≡ Verdict.Accepted) ⌝ }
+    ensures { λ r. ⌜ r ≡ nextIn (choice low key (children l (now (image .entry)) level p)) ⌝ }
+{
+    let at = p.offset as usize;
+    choose(l, &image[at..at + 512], level, p, key)
+}
+
+fn column_at(page: &[u8], place: usize, size: usize, column: Column) -> u64
+    requires { ⌜ (place + size ≤ length (now page)) × Within column size ⌝ }
+    ensures { λ r. ⌜ r ≡ columnOf (part (now (page .entry)) place size) column ⌝ }
+{
+    le::field_of(page, place + column.place, column.width)
+}
+
+// The numbers of the leaf entry at the place.
+fn fields_at(l: Layout, page: &[u8], place: usize) -> Fields
+    requires { ⌜ Fair l × (place + l .leafsize ≤ length (now page)) ⌝ }
+    ensures { λ r. ⌜ r ≡ fieldsOf l (part (now (page .entry)) place (l .leafsize)) ⌝ }
+{
+    let size = l.leafsize;
+    let one = l.first;
+    let two = l.second;
+    let three = l.third;
+    let four = l.fourth;
+    let first = column_at(page, place, size, one);
+    let second = column_at(page, place, size, two);
+    let third = column_at(page, place, size, three);
+    let fourth = column_at(page, place, size, four);
+    Fields {
+        first,
+        second,
+        third,
+        fourth,
+    }
+}
+
+// The answer at a leaf page whose counts fit, when so many pages have been read.
+fn leaf_answer(l: Layout, page: &[u8], p: Link, key: u64, pages: u64) -> Found
+    requires { ⌜ Fair l × (length (now page) ≡ 512) × (countsFit l p (now page) ≡ true) × (levelOf l (now page) ≡ 0) ⌝ }
+    ensures { λ r. ⌜ r ≡ shown l (answer (withKey (keyIn l) key (entries l (now (page .entry)))) pages) ⌝ }
+{
+    let count = page::count_at(page, l.counts);
+    let shape = page::shape_of(l, 0);
+    let seat = keys::first_equal(page, shape, count, key);
+    let Seat::At(i) = seat else {
+        return Found::Absent(pages);
+    };
+    let fields = fields_at(l, page, i * l.leafsize);
+    Found::Entry(fields, pages)
+}
+
+// The same in an image, of an accepted page.
+fn leaf_for(image: &[u8], l: Layout, p: Link, key: u64, pages: u64) -> Found
+    requires { ⌜ Fair l × (pageFits l (now image) p ≡ Verdict.Accepted) × (levelOf l (page (now image) (p .offset)) ≡ 0) ⌝ }
+    ensures { λ r. ⌜ r ≡ shown l (answer (withKey (keyIn l) key (entries l (page (now (image .entry)) (p .offset)))) pages) ⌝ }
+{
+    let at = p.offset as usize;
+    leaf_answer(l, &image[at..at + 512], p, key, pages)
+}
+
+// The descent from a page of a level, when so many pages have been read.
+fn look(image: &[u8], l: Layout, level: usize, p: Link, key: u64, pages: u64) -> Found
+    requires { ⌜ Fair l × LevelIs l (now image) level p × (pages + level ≤ 1000) ⌝ }
+    ensures { λ r. ⌜ r ≡ shown l (counted pages (descend l (now (image .entry)) key level p)) ⌝ }
+{
+    let verdict = page::check_page(image, l, p);
+    if let Verdict::Refused(refusal) = verdict {
+        return Found::Refused(refusal);
+    }
+    if level == 0 {
+        return leaf_for(image, l, p, key, pages + 1);
+    }
+    let next = child_for(image, l, level - 1, p, key);
+    let Next::Here(child) = next else {
+        return Found::Absent(pages + 1);
+    };
+    look(image, l, level - 1, child, key, pages + 1)
+}
+
+// The root page, as the header refers to it.
+fn root_link(image: &[u8], l: Layout) -> Link
+    requires { ⌜ Fair l × (564 ≤ length (now image)) ⌝ }
+    ensures { λ r. ⌜ r ≡ root l (now (image .entry)) ⌝ }
+{
+    let place = l.root;
+    let word = l.word;
+    let number = le::field_of(image, place, word);
+    let offset = le::field_of(image, place + word, word);
+    Link {
+        number,
+        offset,
+        level: Level::AtRoot,
+        range: Range {
+            from: 0,
+            to: End::Open,
+        },
+    }
+}
+
+// The level that a page states, where its offset is allowed: the number that falls on the way down.
+fn stated_level(image: &[u8], l: Layout, offset: u64) -> usize
+    requires { ⌜ Fair l ⌝ }
+    ensures { λ r. ⌜ (offsetFits (now (image .entry)) offset ≡ true → r ≡ levelOf l (page (now (image .entry)) offset)) × (r ≤ 255) ⌝ }
+{
+    if !page::offset_fits(image, offset) {
+        return 0;
+    }
+    let at = offset as usize;
+    page::count_at(&image[at..at + 512], l.counts + 3)
+}
+
+// The whole-tree check.
+fn check_tree(image: &[u8], l: Layout) -> Verdict
+    requires { ⌜ Fair l ⌝ }
+    ensures { λ r. ⌜ r ≡ treeFits l (now (image .entry)) ⌝ }
+{
+    let verdict = header::check_header(image);
+    let Verdict::Accepted = verdict else {
+        return verdict;
+    };
+    let p = root_link(image, l);
+    check_under(image, l, stated_level(image, l, p.offset), p)
+}
+
+// The lookup of a key.
+fn find(image: &[u8], l: Layout, key: u64) -> Found
+    requires { ⌜ Fair l ⌝ }
+    ensures { λ r. ⌜ r ≡ shown l (lookup l (now (image .entry)) key) ⌝ }
+{
+    let verdict = header::check_header(image);
+    if let Verdict::Refused(refusal) = verdict {
+        return Found::Refused(refusal);
+    }
+    let p = root_link(image, l);
+    let level = stated_level(image, l, p.offset);
+    look(image, l, level, p, page::compared(l, key), 0)
+}
+
+pub fn check_nodes(image: &[u8]) -> Verdict
+    ensures { λ r. ⌜ r ≡ treeFits nbt (now (image .entry)) ⌝ }
+{
+    check_tree(image, page::nodes())
+}
+
+pub fn check_blocks(image: &[u8]) -> Verdict
+    ensures { λ r. ⌜ r ≡ treeFits bbt (now (image .entry)) ⌝ }
+{
+    check_tree(image, page::blocks())
+}
+
+fn as_node(found: Found) -> FoundNode
+    ensures { λ r. ⌜ r ≡ asNode found ⌝ }
+{
+    match found {
+        Found::Entry(fields, pages) => FoundNode::Found(
+            Node {
+                node: fields.first,
+                block: fields.second,
+                subnode: fields.third,
+                parent: fields.fourth,
+            },
+            pages,
+        ),
+        Found::Absent(pages) => FoundNode::Absent(pages),
+        Found::Refused(refusal) => FoundNode::Refused(refusal),
+    }
+}
+
+pub fn find_node(image: &[u8], node: u64) -> FoundNode
+    ensures { λ r. ⌜ r ≡ nodeOf (now (image .entry)) node ⌝ }
+{
+    as_node(find(image, page::nodes(), node))
+}
+
+fn as_block(found: Found) -> FoundBlock
+    ensures { λ r. ⌜ r ≡ asBlock found ⌝ }
+{
+    match found {
+        Found::Entry(fields, pages) => FoundBlock::Found(
+            Listed {
+                block: fields.first,
+                offset: fields.second,
+                size: fields.third,
+                references: fields.fourth,
+            },
+            pages,
+        ),
+        Found::Absent(pages) => FoundBlock::Absent(pages),
+        Found::Refused(refusal) => FoundBlock::Refused(refusal),
+    }
+}
+
+pub fn find_block(image: &[u8], block: u64) -> FoundBlock
+    ensures { λ r. ⌜ r ≡ blockOf (now (image .entry)) block ⌝ }
+{
+    as_block(find(image, page::blocks(), block))
+}

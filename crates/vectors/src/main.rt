@@ -1,0 +1,154 @@
+// Runs the worked examples of 003, and others of its formats, from the files of data/. Each line says
+// the section, the call and the answer, and whether that is the answer listed in the file.
+mod text;
+
+use libc::STDOUT_FILENO;
+ghost use Prim.Native.Nat.{_≤_, _<_};
+ghost use lib.ListN.{length};
+ghost use Rattle.io.specs.Counts.{Counts};
+
+// 003, 3.2: the checksum of so many bytes from 8 stands in the header at `place`.
+fn header_checksum(header: &[u8], size: usize, place: usize) {
+    if header.len() < 564 {
+        text::say(b"3.2 header cut short\n");
+        return;
+    }
+    if 556 < size {
+        return;
+    }
+    if 560 < place {
+        return;
+    }
+    let sum = crc::checksum(&header[8..8 + size]);
+    text::say(b"3.2 checksum of ");
+    io::print_decimal(STDOUT_FILENO, size as u64);
+    text::say(b" bytes at 8: ");
+    io::print_hex(STDOUT_FILENO, sum as u64, 8);
+    text::say_whether(sum == le::field4(header, place));
+}
+
+fn header_checksums() {
+    let mut letters = io::buffer();
+    let n = text::load(b"3.2_header.hex", &mut letters);
+    let mut header = [0u8; 564];
+    let size = text::unhex(&letters[..n], &mut header);
+    header_checksum(&header[..size], 471, 4);
+    header_checksum(&header[..size], 516, 524);
+}
+
+fn say_call(section: &[u8], call: &[u8], method: u8, block: u64, bytes: &[u8]) {
+    text::say(section);
+    text::say(call);
+    io::print_decimal(STDOUT_FILENO, method as u64);
+    text::say(b" block ");
+    io::print_hex(STDOUT_FILENO, block, 8);
+    text::say(b" bytes ");
+    text::say_bytes(bytes);
+    text::say(b": ");
+}
+
+fn say_coded(bytes: &[u8], listed: &[u8]) {
+    text::say_bytes(bytes);
+    text::say_whether(check::same(bytes, listed));
+}
+
+fn encode(section: &[u8], method: u8, block: u64, bytes: &mut [u8], listed: &[u8]) {
+    say_call(section, b" encode method ", method, block, bytes);
+    coding::encode(method, block, bytes);
+    say_coded(bytes, listed);
+}
+
+fn decode(section: &[u8], method: u8, block: u64, bytes: &mut [u8], listed: &[u8]) {
+    say_call(section, b" decode method ", method, block, bytes);
+    coding::decode(method, block, bytes);
+    say_coded(bytes, listed);
+}
+
+// A word that was read: where it ends in the text, and how many bytes it stands for.
+struct Word {
+    end: usize,
+    size: usize,
+}
+
+fn next_word(letters: &[u8], from: usize, out: &mut [u8]) -> Word
+    requires { ⌜ from ≤ length (now letters) ⌝ }
+    ensures { λ r. ⌜ (r .end ≤ length (now (letters .entry))) × Counts (r .size) (now (out .exit)) ⌝ }
+{
+    let start = text::word_start(letters, from);
+    let end = text::word_end(letters, start);
+    let size = text::unhex(&letters[start..end], out);
+    Word { end, size }
+}
+
+fn wide(byte: u8) -> u64
+    ensures { λ r. ⌜ r < 256 ⌝ }
+{
+    byte as u64
+}
+
+// The number that four bytes make, the highest first, as it is written.
+fn written(bytes: [u8; 4]) -> u64 {
+    (wide(bytes[0]) * 256 + wide(bytes[1])) * 65536 + wide(bytes[2]) * 256 + wide(bytes[3])
+}
+
+// 5.2: a block number, bytes, and what the cyclic steps make of them, both ways.
+fn cyclic_line(letters: &[u8], from: usize) -> usize
+    requires { ⌜ from ≤ length (now letters) ⌝ }
+    ensures { λ r. ⌜ r ≤ length (now (letters .entry)) ⌝ }
+{
+    let mut number = [0u8; 4];
+    let key = next_word(letters, from, &mut number);
+    let mut plain = [0u8; 64];
+    let first = next_word(letters, key.end, &mut plain);
+    let mut coded = [0u8; 64];
+    let second = next_word(letters, first.end, &mut coded);
+    let block = written(number);
+    let n = first.size;
+    let m = second.size;
+    let mut work = plain;
+    encode(b"5.2", 2, block, &mut work[..n], &coded[..m]);
+    let mut back = coded;
+    decode(b"5.2", 2, block, &mut back[..m], &plain[..n]);
+    second.end
+}
+
+// 5.1: bytes, what R makes of them, and what I makes of them.
+fn permute_line(letters: &[u8], from: usize)
+    requires { ⌜ from ≤ length (now letters) ⌝ }
+{
+    let mut plain = [0u8; 64];
+    let first = next_word(letters, from, &mut plain);
+    let mut by_r = [0u8; 64];
+    let second = next_word(letters, first.end, &mut by_r);
+    let mut by_i = [0u8; 64];
+    let third = next_word(letters, second.end, &mut by_i);
+    let n = first.size;
+    let m = second.size;
+    let k = third.size;
+    let mut work = plain;
+    encode(b"5.1", 1, 0, &mut work[..n], &by_r[..m]);
+    let mut back = plain;
+    decode(b"5.1", 1, 0, &mut back[..n], &by_i[..k]);
+}
+
+// Six lines of 5.2 and then one of 5.1.
+fn coding_lines(letters: &[u8]) {
+    let mut at: usize = 0;
+    let mut lines: usize = 0;
+    while lines < 6 {
+        at = cyclic_line(letters, at);
+        lines += 1;
+    }
+    permute_line(letters, at);
+}
+
+fn coding_vectors() {
+    let mut letters = io::buffer();
+    let n = text::load(b"5.2_cyclic_vectors.txt", &mut letters);
+    coding_lines(&letters[..n]);
+}
+
+fn main() {
+    header_checksums();
+    coding_vectors();
+}

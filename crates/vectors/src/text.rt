@@ -1,0 +1,127 @@
+// Files of hexadecimal text, and lines of output.
+use libc::STDOUT_FILENO;
+ghost use Prim.Native.Nat.{_≤_, _<_};
+ghost use lib.ListN.{length};
+ghost use Rattle.io.specs.Counts.{Counts};
+
+// Reads a file of the program's folder to the front of the buffer; how many bytes it has.
+pub fn load(path: &[u8], buffer: &mut [u8]) -> usize
+    ensures { λ r. ⌜ Counts r (now (buffer .exit)) ⌝ }
+{
+    let file = os::open_read(path);
+    if file < 0 {
+        os::fail(path);
+        return 0;
+    }
+    let n = io::read_full(file, buffer);
+    libc::close(file);
+    n
+}
+
+// What a hexadecimal digit in lower case stands for; 16 for anything else.
+fn digit(character: u8) -> u8
+    ensures { λ r. ⌜ r ≤ 16 ⌝ }
+{
+    if character < b'0' {
+        return 16;
+    }
+    if character <= b'9' {
+        return character - b'0';
+    }
+    if character < b'a' {
+        return 16;
+    }
+    if character <= b'f' {
+        return character - b'a' + 10;
+    }
+    16
+}
+
+// The bytes that pairs of digits stand for, at the front of `out`; what is no digit is passed over.
+pub fn unhex(text: &[u8], out: &mut [u8]) -> usize
+    ensures { λ r. ⌜ Counts r (now (out .exit)) ⌝ }
+{
+    let mut n: usize = 0;
+    let mut i: usize = 0;
+    while i < text.len() {
+        let high = digit(text[i]);
+        i += 1;
+        if i == text.len() {
+            return n;
+        }
+        if n == out.len() {
+            return n;
+        }
+        if high < 16 {
+            out[n] = high * 16 + digit(text[i]) % 16;
+            n += 1;
+            i += 1;
+        }
+    }
+    n
+}
+
+fn is_blank(character: u8) -> bool {
+    (character == b' ') | (character == b'\n')
+}
+
+// Where the next word starts: blanks and lines that begin with '#' are passed over.
+pub fn word_start(text: &[u8], from: usize) -> usize
+    requires { ⌜ from ≤ length (now text) ⌝ }
+    ensures { λ r. ⌜ r ≤ length (now (text .entry)) ⌝ }
+{
+    let mut i = from;
+    let mut in_comment = false;
+    while i < text.len() {
+        let character = text[i];
+        if in_comment {
+            in_comment = character != b'\n';
+        } else if character == b'#' {
+            in_comment = true;
+        } else if !is_blank(character) {
+            return i;
+        }
+        i += 1;
+    }
+    i
+}
+
+// Where the word ends that starts there.
+pub fn word_end(text: &[u8], from: usize) -> usize
+    requires { ⌜ from ≤ length (now text) ⌝ }
+    ensures { λ r. ⌜ (from ≤ r) × (r ≤ length (now (text .entry))) ⌝ }
+{
+    let mut i = from;
+    while i < text.len() {
+        if is_blank(text[i]) {
+            return i;
+        }
+        i += 1;
+    }
+    i
+}
+
+pub fn say(words: &[u8]) {
+    io::write_all(STDOUT_FILENO, words);
+}
+
+fn say_byte(byte: u8) {
+    io::print_hex(STDOUT_FILENO, byte as u64, 2);
+}
+
+pub fn say_bytes(bytes: &[u8]) {
+    let mut i: usize = 0;
+    while i < bytes.len() {
+        say_byte(bytes[i]);
+        i += 1;
+    }
+}
+
+// Whether an answer is the one in the file, and the line's end.
+pub fn say_whether(right: bool) {
+    if right {
+        say(b", as listed\n");
+    } else {
+        say(b", NOT as listed\n");
+    }
+}
