@@ -1,0 +1,3 @@
+pub mod ShapeLaws
+pub mod ItemLaws
+pub mod Marked

@@ -1,0 +1,5 @@
+pub mod RootLaws
+pub mod RecordLaws
+pub mod StepLaws
+pub mod SoundLaws
+pub mod ScanLaws

@@ -1,0 +1,17 @@
+use mathlib.Core.Path.{sym, _∙_}
+use Rattle.property.proofs.RootLaws.{root-exactly}
+use Rattle.property.proofs.StepLaws.{property-refused, property-on}
+use borrow.Author.Needs.{needs}
+use Rattle.property.proofs.find_property.Statement.{statement}
+use Rattle.property.proofs.find_property.Tie as tie
+
+pub find-property-spec : {M : Type 1} → statement M
+find-property-spec =
+    tie.close
+    (tie.spec
+    (λ c κs. search needs)
+    (λ c. search needs)
+    (λ c. search needs)
+    (λ c κs. root-exactly _ .0 (sym (c .before .before .test-root .ensures) ∙ c .enum-told .given .1))
+    (λ c. sym (property-refused _ _ _ (sym (c .before .before .before .test-root .ensures) ∙ c .before .verdict .given .1)))
+    (λ c. c .find-from-root .ensures ∙ sym (property-on _ _ (sym (c .before .before .before .test-root .ensures) ∙ c .before .enum-told .given .1))))

@@ -1,0 +1,6 @@
+pub mod Root
+pub mod Records
+pub mod Descent
+pub mod Sound
+pub mod Scan
+pub mod Steps
