@@ -9,12 +9,13 @@ use native.Mathlib.Numerals.{add-one}
 use native.Mathlib.Omega.{arith}
 use lib.Dec.{eqb}
 use lib.ListN.{length}
-use borrow.Author.Tests.{eqb-true, eqb-false, ne-eqb}
+use borrow.Author.Tests.{eqb-true}
 use Rattle.refusal.specs.declared.Verdict.the-variants.{Accepted}
 use Rattle.refusal.proofs.OrderLaws.{goes, then-left, then-right}
 use Rattle.keys.specs.Plain.{Missing, Distinct}
 use Rattle.keys.specs.Search.{withKey}
 use Rattle.keys.proofs.Climbs.{climbs-ascend}
+use Rattle.keys.proofs.FoundLaws.{missing-exactly}
 use Rattle.header.specs.Header.{headerFits}
 use Rattle.page.specs.declared.Layout.{Layout}
 use Rattle.page.specs.Layout.{compared}
@@ -37,21 +38,6 @@ module _ {A : Type 0} (key : A → ℕ) (k : ℕ) where
   unfolding withKey
   found-in e [] h = let clash : _≡_ {A = ℕ} 0 1 = cc in absurd (omega arith)
   found-in e (x ∷ xs) h = found-first x e xs (eqb (key x) k) (withKey key k xs) refl (found-in e xs) h
-
-  missing-in : (es : List A) → Missing k (map key es) → withKey key k es ≡ none
-  unfolding withKey
-  missing-in [] m = refl
-  missing-in (e ∷ es) m = rw (ne-eqb (key e) k (λ h. m .0 (sym h))) (missing-in es (m .1))
-
-  missing-first : (x : A) (xs : List A) (b : Bool) (o : Option A) → eqb (key x) k ≡ b
-      → (o ≡ none → Missing k (map key xs)) → cond b (some x) o ≡ none → Missing k (map key (x ∷ xs))
-  missing-first x xs true o t f h = let clash : _≡_ {A = ℕ} 0 1 = cc in absurd (omega arith)
-  missing-first x xs false o t f h = (λ q. eqb-false (key x) k t (sym q), f h)
-
-  in-missing : (es : List A) → withKey key k es ≡ none → Missing k (map key es)
-  unfolding withKey
-  in-missing [] h = tt
-  in-missing (x ∷ xs) h = missing-first x xs (eqb (key x) k) (withKey key k xs) refl (in-missing xs) h
 
 found-answer : (o : Option (List ℕ)) (m : ℕ) (e : List ℕ) (n : ℕ) → answer o m ≡ found e n → o ≡ some e
 unfolding answer
@@ -84,8 +70,8 @@ module _ (L : Layout) (image : List ℕ) (ok : treeFits L image ≡ Accepted) wh
   absent-iff : (key : ℕ) → (lookup L image key ≡ absent (length (path L image key))) ↔ Missing (compared L key) (map (keyIn L) (scan L image))
   unfolding answer
   absent-iff key = (
-    (λ h. in-missing (keyIn L) (compared L key) (scan L image) (absent-answer (withKey (keyIn L) (compared L key) (scan L image)) _ _ (sym (answers key) ∙ h))),
-    (λ m. answers key ∙ ap (λ o. answer o (length (path L image key))) (missing-in (keyIn L) (compared L key) (scan L image) m)),
+    (λ h. missing-exactly (keyIn L) (compared L key) (scan L image) .0 (absent-answer (withKey (keyIn L) (compared L key) (scan L image)) _ _ (sym (answers key) ∙ h))),
+    (λ m. answers key ∙ ap (λ o. answer o (length (path L image key))) (missing-exactly (keyIn L) (compared L key) (scan L image) .1 m)),
   )
 
   one-route : Distinct (allRoutes L image)

@@ -1,5 +1,6 @@
 // Runs the worked examples of 003, and others of its formats, from the files of data/. Each line says
-// the section, the call and the answer, and whether that is the answer listed in the file.
+// the section, the call and the answer; where the file lists the answer too, whether it is that one.
+mod heaps;
 mod text;
 
 use libc::STDOUT_FILENO;
@@ -151,4 +152,6 @@ fn coding_vectors() {
 fn main() {
     header_checksums();
     coding_vectors();
+    heaps::store_heap();
+    heaps::table_heap();
 }
