@@ -149,6 +149,30 @@ pub checked-fits : (image : List ℕ) (number : ℕ) (b : Listed) → checkedBlo
 unfolding checkedBlock
 checked-fits image number b e = checked-by image (blockOf image number) b e
 
+-- a checked block is the one that the lookup finds
+same-by : (image : List ℕ) (f : FoundBlock) (b d : Listed) (n : ℕ) → testedBy (blockFits trailer64 image) f ≡ checked.Block b → f ≡ block.Found d n → d ≡ b
+unfolding testedBy
+same-by image f b d n e g = by (blockFits trailer64 image d) refl
+  where
+    by : (v : Verdict) → blockFits trailer64 image d ≡ v → d ≡ b
+    by Accepted q = unblock (sym (ap (testedBy (blockFits trailer64 image)) g ∙ goes checked.Refused _ _ q) ∙ e)
+      where
+        unblock : checked.Block d ≡ checked.Block b → d ≡ b
+        unblock p = cc
+    by (Refused r) q = let other = ap (testedBy (blockFits trailer64 image)) g ∙ ends checked.Refused _ (checked.Block d) r q in cc
+
+pub checked-same : (image : List ℕ) (number : ℕ) (b d : Listed) (n : ℕ) → checkedBlock image number ≡ checked.Block b → blockOf image number ≡ block.Found d n → d ≡ b
+unfolding checkedBlock
+checked-same image number b d n e g = same-by image (blockOf image number) b d n e g
+
+pub checked-not-absent : (image : List ℕ) (number : ℕ) (b : Listed) (n : ℕ) → checkedBlock image number ≡ checked.Block b → blockOf image number ≡ block.Absent n → ⊥
+checked-not-absent image number b n e g =
+    let other = unlisted image number n g in let clash : _≡_ {A = ℕ} 0 1 = cc in omega arith
+
+pub checked-not-refused : (image : List ℕ) (number : ℕ) (b : Listed) (r : Refusal) → checkedBlock image number ≡ checked.Block b → blockOf image number ≡ block.Refused r → ⊥
+checked-not-refused image number b r e g =
+    let other = lookup-refused image number r g in let clash : _≡_ {A = ℕ} 0 1 = cc in omega arith
+
 pub checked-inside : (image : List ℕ) (number : ℕ) (b : Listed) → checkedBlock image number ≡ checked.Block b → b .offset + b .size ≤ length image
 checked-inside image number b e = block-inside trailer64 image b (checked-fits image number b e)
 
@@ -199,3 +223,7 @@ module _ (image : List ℕ) (number : ℕ) (out : List ℕ) where
 pub size-of-refused : (c : Checked) (r : Refusal) → c ≡ checked.Refused r → sizeIn c ≡ sized.Refused r
 unfolding sizeIn
 size-of-refused c r e = rw e
+
+pub checked-size : (image : List ℕ) (number : ℕ) (b : Listed) → checkedBlock image number ≡ checked.Block b → b .size ≤ 8176
+unfolding trailer64
+checked-size image number b e = placed-of trailer64 image b (accepted-placed trailer64 image b (checked-fits image number b e)) .few

@@ -1,0 +1,5 @@
+pub mod Numbers
+pub mod Kids
+pub mod Running
+pub mod Outcomes
+pub mod Exactly

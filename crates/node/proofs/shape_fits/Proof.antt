@@ -1,0 +1,39 @@
+use native.Mathlib.Omega.{arith}
+use Rattle.le.specs.Bytes.{byte}
+use Rattle.node.specs.Content.{shapeFits, countIn, numbersIn}
+use Rattle.node.proofs.Numbers.{too-short, too-few}
+use borrow.Author.Needs.{needs}
+use Rattle.node.proofs.shape_fits.Statement.{statement}
+use Rattle.node.proofs.shape_fits.Tie as tie
+
+returns : tie.Need-returns
+returns c =
+    let a = c .before .before .args in
+    too-short (a .root .now) (omega arith)
+
+returns-2 : tie.Need-returns-2
+unfolding countIn
+returns-2 c =
+    let a = c .before .before .before .before .args in
+    too-few (a .root .now) (omega (arith, c .before .field2 .ensures))
+
+returns-3 : tie.Need-returns-3
+unfolding shapeFits countIn numbersIn byte
+returns-3 c = rw (c .none-internal .ensures, c .before .before .before .before .field2 .ensures)
+
+pub shape-fits-spec : {M : Type 1} → statement M
+shape-fits-spec =
+    tie.close
+    (tie.spec
+    returns
+    (λ c κs. search needs)
+    (λ c. search needs)
+    (λ c. search needs)
+    (λ c. search needs)
+    returns-2
+    (λ c. search needs)
+    (λ c. search needs)
+    (λ c. search needs)
+    (λ c. search needs)
+    (λ c κs. search needs)
+    returns-3)

@@ -1,0 +1,113 @@
+-- Document 01, "Node data". Assumes nothing: these are definitions.
+use Prim.Native.Nat.{ℕ, zero, suc, _+_, _*_}
+use mathlib.Core.Bool.{Bool, true, false, not, _&&_, cond}
+use mathlib.Core.List.{List, [], _∷_}
+use lib.Dec.{leb, eqb}
+use lib.ListN.{length}
+use Rattle.le.specs.Bytes.{part, field, byte}
+use Rattle.refusal.specs.declared.Refusal.{Refusal}
+use Rattle.refusal.specs.declared.Fault.the-variants.{DataTree, ShortBuffer}
+use Rattle.refusal.specs.Order.{_at_, _needing_, demand, after}
+use Rattle.keys.specs.Search.{joined}
+use Rattle.tree.specs.declared.Listed.{Listed}
+use Rattle.tree.specs.declared.FoundNode.{FoundNode}
+use Rattle.tree.specs.declared.FoundNode.the-variants as node
+use Rattle.tree.specs.Answers.{nodeOf}
+use Rattle.block.specs.declared.Checked.{Checked}
+use Rattle.block.specs.declared.Checked.the-variants as checked
+use Rattle.block.specs.Block.{checkedBlock, internal, blockBytes, fronted}
+use Rattle.node.specs.declared.NodeRead.{NodeRead}
+use Rattle.node.specs.declared.NodeRead.the-variants as read
+
+-- what a node's data is: its bytes; absent; or a refusal
+pub data Content : Type 0 where
+  bytes : List ℕ → Content
+  absent : Content
+  refused : Refusal → Content
+
+-- of a data tree's root block g: "count c (two bytes at 2)", and its c numbers, eight bytes each from 8
+unfoldable pub countIn : List ℕ → ℕ
+countIn g = field g 2 2
+
+unfoldable pub numberAt : List ℕ → ℕ → ℕ
+numberAt g i = field g (8 + 8 * i) 8
+
+unfoldable pub numbersFrom : List ℕ → ℕ → ℕ → List ℕ
+numbersFrom g i zero = []
+numbersFrom g i (suc n) = numberAt g i ∷ numbersFrom g (i + 1) n
+
+unfoldable pub numbersIn : List ℕ → List ℕ
+numbersIn g = numbersFrom g 0 (countIn g)
+
+-- "all c numbers not internal"
+unfoldable pub noneInternal : List ℕ → Bool
+noneInternal [] = true
+noneInternal (n ∷ ns) = not (internal n) && noneInternal ns
+
+-- "byte 0 is 1, byte 1 is 1, count c is 1 to 1,021, size is 8 + 8c, all c numbers not internal". A block under 8 bytes has no such shape.
+unfoldable pub shapeFits : List ℕ → Bool
+shapeFits g =
+    leb 8 (length g) && eqb (byte g 0) 1 && eqb (byte g 1) 1 && leb 1 (countIn g) && leb (countIn g) 1021
+    && eqb (length g) (8 + 8 * countIn g) && noneInternal (numbersIn g)
+
+-- "each child, a number 0 too, looked up and tested (12 to 15) in turn": the blocks, or the first refusal
+pub data Kids : Type 0 where
+  all : List Listed → Kids
+  fault : Refusal → Kids
+
+unfoldable pub andKids : Checked → Kids → Kids
+andKids (checked.Block b) (all bs) = all (b ∷ bs)
+andKids (checked.Block b) (fault r) = fault r
+andKids (checked.Refused r) kids = fault r
+
+unfoldable pub kidsOf : List ℕ → List ℕ → Kids
+kidsOf image [] = all []
+kidsOf image (n ∷ ns) = andKids (checkedBlock image n) (kidsOf image ns)
+
+-- "the sum of sizes"
+unfoldable pub total : List Listed → ℕ
+total [] = 0
+total (b ∷ bs) = b .size + total bs
+
+-- "then the sum of sizes equals the four bytes at 4, else 16"; "Each child's bytes go into the buffer right behind those of the child before."
+unfoldable pub gathered : List ℕ → ℕ → List ℕ → Kids → Content
+gathered image offset g (fault r) = refused r
+gathered image offset g (all bs) =
+    after refused (demand (eqb (total bs) (field g 4 4)) (DataTree at offset)) (bytes (joined (blockBytes image) bs))
+
+-- the data of a data tree whose root block, at this offset, has the bytes g as stored
+unfoldable pub treeContent : List ℕ → ℕ → List ℕ → Content
+treeContent image offset g = after refused (demand (shapeFits g) (DataTree at offset)) (gathered image offset g (kidsOf image (numbersIn g)))
+
+-- "Not internal: ... that block, decoded. Internal: ..."
+unfoldable pub blockContent : List ℕ → Listed → Content
+blockContent image b = cond (internal (b .block)) (treeContent image (b .offset) (part image (b .offset) (b .size))) (bytes (blockBytes image b))
+
+unfoldable pub checkedContent : List ℕ → Checked → Content
+checkedContent image (checked.Block b) = blockContent image b
+checkedContent image (checked.Refused r) = refused r
+
+-- "Number 0: no bytes. Any other is looked up and tested (12 to 15)."
+unfoldable pub dataOf : List ℕ → ℕ → Content
+dataOf image number = cond (eqb number 0) (bytes []) (checkedContent image (checkedBlock image number))
+
+-- "Node data: node lookup (absent is answered), then its data block."
+unfoldable pub foundContent : List ℕ → FoundNode → Content
+foundContent image (node.Found n pages) = dataOf image (n .block)
+foundContent image (node.Absent pages) = absent
+foundContent image (node.Refused r) = refused r
+
+unfoldable pub nodeContent : List ℕ → ℕ → Content
+nodeContent image number = foundContent image (nodeOf image number)
+
+-- the outcome of a read into a buffer of this length: "then 17". "The answer is the length, without a page count."
+unfoldable pub answerTo : Content → ℕ → NodeRead
+answerTo (bytes s) space = cond (leb (length s) space) (read.Length (length s)) (read.Refused (ShortBuffer needing length s))
+answerTo absent space = read.Absent
+answerTo (refused r) space = read.Refused r
+
+-- and the buffer at exit: the data at its front, or as it was
+unfoldable pub filledBy : Content → List ℕ → List ℕ
+filledBy (bytes s) out = cond (leb (length s) (length out)) (fronted s out) out
+filledBy absent out = out
+filledBy (refused r) out = out
