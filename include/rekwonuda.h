@@ -90,6 +90,13 @@ struct rkw_length_answer {
     uint64_t length;
 };
 
+/* The data of a node. found: 1 or 0. length: how many bytes now stand at the front of `out`; 0 for a
+ * node without data. */
+struct rkw_data_answer {
+    uint64_t refusal, place, more;
+    uint64_t found, length;
+};
+
 /* Where an item stands in the caller's block: its first byte, and how many bytes it has. */
 struct rkw_item_answer {
     uint64_t refusal, place, more;
@@ -127,6 +134,12 @@ struct rkw_size_answer rkw_test_block(const uint8_t *image, size_t len, uint64_t
  * are stored where the block is internal (bit 1, of value 2, of its number). What follows them in
  * `out` stays as it was. No block has more than 8,176 bytes. Refusals 1 to 15, and 17. */
 struct rkw_length_answer rkw_read_block(const uint8_t *image, size_t len, uint64_t block, uint8_t *out, size_t out_len);
+
+/* Looks up a node and puts its data at the front of `out`: the bytes of its data block, or, where that
+ * is internal, of the blocks that it lists, one right behind the other, each tested and decoded. What
+ * follows them in `out` stays as it was. The data of a node has at most 8,347,696 bytes; called with
+ * out_len 0, the call says in `more` of refusal 17 how many there are. Refusals 1 to 17. */
+struct rkw_data_answer rkw_read_node(const uint8_t *image, size_t len, uint64_t node, uint8_t *out, size_t out_len);
 
 /* Encodes, or decodes, `bytes` in place as the data of that block: method 0 leaves them, 1 is permute,
  * 2 is cyclic. Works on any length and under any block number. Refusal 5, place 0. */

@@ -118,6 +118,16 @@ static void call_read_block(size_t room)
     bytes("out", out, sizeof out);
 }
 
+static void call_read_node(uint64_t node, size_t room)
+{
+    memset(out, 0xAA, sizeof out);
+    struct rkw_data_answer a = rkw_read_node(filled, IMAGE, node, out, room);
+    refusal("rkw_read_node", a.refusal, a.place, a.more);
+    field("found", a.found);
+    field("length", a.length);
+    bytes("out", out, sizeof out);
+}
+
 static void call_coding(uint8_t method)
 {
     uint8_t b[16];
@@ -179,6 +189,11 @@ int main(int count, char **words)
     call_test_block(filled);
     call_read_block(sizeof out);
     call_read_block(SIZE - 1);
+    call_read_node(0x60D, sizeof out);
+    call_read_node(0x60D, 0);
+    call_read_node(0x1E1, 0);
+    call_read_node(0x20, 0);
+    call_read_node(0x60E, sizeof out);
     call_coding(2);
     call_coding(3);
     verdict("rkw_test_heap", rkw_test_heap(heap, SIZE));

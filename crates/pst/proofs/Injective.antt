@@ -19,11 +19,13 @@ use Rattle.tree.specs.declared.FoundBlock.{FoundBlock}
 use Rattle.tree.specs.declared.FoundBlock.the-variants as block
 use Rattle.block.specs.declared.Sized.{Sized}
 use Rattle.block.specs.declared.Sized.the-variants as sized
+use Rattle.node.specs.declared.NodeRead.{NodeRead}
+use Rattle.node.specs.declared.NodeRead.the-variants as read
 use Rattle.heap.specs.declared.Span.{Span}
 use Rattle.heap.specs.declared.Span.the-variants as span
 use Rattle.property.specs.declared.Property.{Property}
 use Rattle.property.specs.declared.Property.the-variants as property
-use Rattle.pst.specs.Meaning.{Meaning, answered, absent, refused, refusalMeans, verdictMeans, headerMeans, nodeMeans, blockMeans, sizedMeans, spanMeans, propertyMeans}
+use Rattle.pst.specs.Meaning.{Meaning, answered, absent, refused, refusalMeans, verdictMeans, headerMeans, nodeMeans, blockMeans, sizedMeans, dataMeans, spanMeans, propertyMeans}
 
 numberIn : Meaning → ℕ
 numberIn (answered values) = 0
@@ -197,6 +199,32 @@ sized-back (sized.Refused r) = refl
 pub sized-injective : (x y : Sized) → sizedMeans x ≡ sizedMeans y → x ≡ y
 sized-injective =
     injective Sized sizedMeans (record { refusal = sized-refusal; answer = sized-answer; told = sized-told; back = sized-back })
+
+read-refusal : NodeRead → Refusal
+read-refusal (read.Length n) = nothing
+read-refusal read.Absent = nothing
+read-refusal (read.Refused r) = r
+
+read-answer : Refusal → Meaning → NodeRead
+read-answer r (answered v) = read.Length (getD v 0 0)
+read-answer r (absent v) = read.Absent
+read-answer r (refused n place more) = read.Refused r
+
+read-told : (x : NodeRead) → refusalPart (dataMeans x) ≡ refusalMeans (read-refusal x)
+unfolding dataMeans read-refusal refusalPart refusalMeans
+read-told (read.Length n) = refl
+read-told read.Absent = refl
+read-told (read.Refused r) = refl
+
+read-back : (x : NodeRead) → read-answer (read-refusal x) (dataMeans x) ≡ x
+unfolding dataMeans read-refusal read-answer refusalMeans
+read-back (read.Length n) = refl
+read-back read.Absent = refl
+read-back (read.Refused r) = refl
+
+pub data-injective : (x y : NodeRead) → dataMeans x ≡ dataMeans y → x ≡ y
+data-injective =
+    injective NodeRead dataMeans (record { refusal = read-refusal; answer = read-answer; told = read-told; back = read-back })
 
 span-refusal : Span → Refusal
 span-refusal (span.Within start length) = nothing

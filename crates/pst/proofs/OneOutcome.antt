@@ -6,7 +6,7 @@ use contract.Lifetimes.{Lfts}
 use denote.Ref.{now}
 use denote.Triple.Clauses.{AtExit}
 use borrow.Fn.Kinds.{PK, RK, Out, Dens, resT, endedOf}
-use Rattle.pst.proofs.Injective.{verdict-injective, header-injective, node-injective, block-injective, sized-injective, span-injective, property-injective}
+use Rattle.pst.proofs.Injective.{verdict-injective, header-injective, node-injective, block-injective, sized-injective, data-injective, span-injective, property-injective}
 use Rattle.pst.proofs.header.Reads as header
 use Rattle.pst.proofs.header.Kinds as header-kinds
 use Rattle.pst.proofs.check_nodes.Reads as check-nodes
@@ -21,6 +21,8 @@ use Rattle.pst.proofs.test_block.Reads as test-block
 use Rattle.pst.proofs.test_block.Kinds as test-block-kinds
 use Rattle.pst.proofs.read_block.Reads as read-block
 use Rattle.pst.proofs.read_block.Kinds as read-block-kinds
+use Rattle.pst.proofs.read_node.Reads as read-node
+use Rattle.pst.proofs.read_node.Kinds as read-node-kinds
 use Rattle.pst.proofs.encode.Reads as encode
 use Rattle.pst.proofs.encode.Kinds as encode-kinds
 use Rattle.pst.proofs.decode.Reads as decode
@@ -68,6 +70,10 @@ test-block-single κs a x y s t p q = sized-injective x y (p ∙ sym q)
 read-block-single : (κs : Lfts 2) (a : Dens κs read-block-kinds.ps) (x y : resT read-block-kinds.r κs .Denot) (s t : AtExit (endedOf 2 read-block-kinds.ps read-block-kinds.r) κs)
     → read-block.Post κs a x s → read-block.Post κs a y t → (x ≡ y) × (now (s .1 .1 .0) ≡ now (t .1 .1 .0))
 read-block-single κs a x y s t p q = (sized-injective x y (p .0 ∙ sym (q .0)), p .1 ∙ sym (q .1))
+
+read-node-single : (κs : Lfts 2) (a : Dens κs read-node-kinds.ps) (x y : resT read-node-kinds.r κs .Denot) (s t : AtExit (endedOf 2 read-node-kinds.ps read-node-kinds.r) κs)
+    → read-node.Post κs a x s → read-node.Post κs a y t → (x ≡ y) × (now (s .1 .1 .0) ≡ now (t .1 .1 .0))
+read-node-single κs a x y s t p q = (data-injective x y (p .0 ∙ sym (q .0)), p .1 ∙ sym (q .1))
 
 encode-single : (κs : Lfts 1) (a : Dens κs encode-kinds.ps) (x y : resT encode-kinds.r κs .Denot) (s t : AtExit (endedOf 1 encode-kinds.ps encode-kinds.r) κs)
     → encode.Post κs a x s → encode.Post κs a y t → (x ≡ y) × (now (s .1 .1 .0) ≡ now (t .1 .1 .0))

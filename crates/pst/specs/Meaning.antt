@@ -13,6 +13,8 @@ use Rattle.tree.specs.declared.FoundBlock.{FoundBlock}
 use Rattle.tree.specs.declared.FoundBlock.the-variants as block
 use Rattle.block.specs.declared.Sized.{Sized}
 use Rattle.block.specs.declared.Sized.the-variants as sized
+use Rattle.node.specs.declared.NodeRead.{NodeRead}
+use Rattle.node.specs.declared.NodeRead.the-variants as read
 use Rattle.heap.specs.declared.Span.{Span}
 use Rattle.heap.specs.declared.Span.the-variants as span
 use Rattle.property.specs.declared.Property.{Property}
@@ -57,6 +59,12 @@ blockMeans (block.Refused r) = refusalMeans r
 unfoldable pub sizedMeans : Sized → Meaning
 sizedMeans (sized.Size n) = answered (n ∷ [])
 sizedMeans (sized.Refused r) = refusalMeans r
+
+-- length
+unfoldable pub dataMeans : NodeRead → Meaning
+dataMeans (read.Length n) = answered (n ∷ [])
+dataMeans read.Absent = absent []
+dataMeans (read.Refused r) = refusalMeans r
 
 -- start, length
 unfoldable pub spanMeans : Span → Meaning

@@ -10,10 +10,11 @@ use Rattle.page.specs.Page.{signature}
 use Rattle.tree.specs.Tree.{treeFits}
 use Rattle.tree.specs.Answers.{nodeOf, blockOf}
 use Rattle.block.specs.Block.{room, testOf, readOf, filledOf}
+use Rattle.node.specs.Content.{nodeContent, answerTo, filledBy}
 use Rattle.heap.specs.Shape.{heapTest}
 use Rattle.heap.specs.Items.{itemTest, itemOr, itemSpan}
 use Rattle.property.specs.Descent.{property}
-use Rattle.pst.specs.Meaning.{Meaning, verdictMeans, headerMeans, nodeMeans, blockMeans, sizedMeans, spanMeans, propertyMeans}
+use Rattle.pst.specs.Meaning.{Meaning, verdictMeans, headerMeans, nodeMeans, blockMeans, sizedMeans, dataMeans, spanMeans, propertyMeans}
 
 unfoldable pub headerOutcome : List ℕ → Meaning
 headerOutcome image = headerMeans (headerOf image)
@@ -42,6 +43,13 @@ readOutcome image block out = sizedMeans (readOf image block (length out))
 
 unfoldable pub readBuffer : List ℕ → ℕ → List ℕ → List ℕ
 readBuffer image block out = filledOf image block out
+
+-- the data of a node, and the buffer
+unfoldable pub dataOutcome : List ℕ → ℕ → List ℕ → Meaning
+dataOutcome image node out = dataMeans (answerTo (nodeContent image node) (length out))
+
+unfoldable pub dataBuffer : List ℕ → ℕ → List ℕ → List ℕ
+dataBuffer image node out = filledBy (nodeContent image node) out
 
 -- encoding and decoding answer alike
 unfoldable pub codeOutcome : ℕ → Meaning

@@ -2,13 +2,14 @@
 use block::Sized;
 use header::HeaderAnswer;
 use heap::Span;
+use node::NodeRead;
 use property::Property;
 use refusal::Verdict;
 use tree::FoundBlock;
 use tree::FoundNode;
 ghost use mathlib.Core.Path.{_≡_};
-ghost use Rattle.pst.specs.Meaning.{verdictMeans, headerMeans, nodeMeans, blockMeans, sizedMeans, spanMeans, propertyMeans};
-ghost use Rattle.pst.specs.Outcomes.{headerOutcome, nodesOutcome, blocksOutcome, nodeOutcome, blockOutcome, testOutcome, readOutcome, readBuffer, codeOutcome, encodeBuffer, decodeBuffer, heapOutcome, testItemOutcome, itemOutcome, spanOutcome, propertyOutcome, checksumOutcome, signatureOutcome, roomOutcome};
+ghost use Rattle.pst.specs.Meaning.{verdictMeans, headerMeans, nodeMeans, blockMeans, sizedMeans, dataMeans, spanMeans, propertyMeans};
+ghost use Rattle.pst.specs.Outcomes.{headerOutcome, nodesOutcome, blocksOutcome, nodeOutcome, blockOutcome, testOutcome, readOutcome, readBuffer, dataOutcome, dataBuffer, codeOutcome, encodeBuffer, decodeBuffer, heapOutcome, testItemOutcome, itemOutcome, spanOutcome, propertyOutcome, checksumOutcome, signatureOutcome, roomOutcome};
 
 // What the header says.
 pub fn header(image: &[u8]) -> HeaderAnswer
@@ -58,6 +59,14 @@ pub fn read_block(image: &[u8], block: u64, out: &mut [u8]) -> Sized
     ensures buffer { λ _. ⌜ now (out .exit) ≡ readBuffer (now (image .entry)) block (now (out .entry)) ⌝ }
 {
     block::read_block(image, block, out)
+}
+
+// The data of a node at the front of `out`.
+pub fn read_node(image: &[u8], node: u64, out: &mut [u8]) -> NodeRead
+    ensures answer { λ r. ⌜ dataMeans r ≡ dataOutcome (now (image .entry)) node (now (out .entry)) ⌝ }
+    ensures buffer { λ _. ⌜ now (out .exit) ≡ dataBuffer (now (image .entry)) node (now (out .entry)) ⌝ }
+{
+    node::read_node(image, node, out)
 }
 
 // Encodes the bytes in place.

@@ -11,6 +11,8 @@ use Rattle.tree.specs.declared.FoundBlock.{FoundBlock}
 use Rattle.tree.specs.declared.FoundBlock.the-variants as block
 use Rattle.block.specs.declared.Sized.{Sized}
 use Rattle.block.specs.declared.Sized.the-variants as sized
+use Rattle.node.specs.declared.NodeRead.{NodeRead}
+use Rattle.node.specs.declared.NodeRead.the-variants as read
 use Rattle.heap.specs.declared.Span.{Span}
 use Rattle.heap.specs.declared.Span.the-variants as span
 use Rattle.property.specs.declared.Property.{Property}
@@ -21,6 +23,7 @@ use Rattle.rkw.specs.declared.RkwNode.{RkwNode}
 use Rattle.rkw.specs.declared.RkwBlock.{RkwBlock}
 use Rattle.rkw.specs.declared.RkwSize.{RkwSize}
 use Rattle.rkw.specs.declared.RkwLength.{RkwLength}
+use Rattle.rkw.specs.declared.RkwData.{RkwData}
 use Rattle.rkw.specs.declared.RkwItem.{RkwItem}
 use Rattle.rkw.specs.declared.RkwProperty.{RkwProperty}
 
@@ -123,6 +126,12 @@ sizeAnswer (sized.Refused r) = record { refusal = number (r .fault); place = r .
 unfoldable pub lengthAnswer : Sized → RkwLength
 lengthAnswer (sized.Size n) = record { refusal = 0; place = 0; more = 0; length = n }
 lengthAnswer (sized.Refused r) = record { refusal = number (r .fault); place = r .place; more = r .more; length = 0 }
+
+-- of the node read
+unfoldable pub dataAnswer : NodeRead → RkwData
+dataAnswer (read.Length n) = record { refusal = 0; place = 0; more = 0; found = 1; length = n }
+dataAnswer read.Absent = record { refusal = 0; place = 0; more = 0; found = 0; length = 0 }
+dataAnswer (read.Refused r) = record { refusal = number (r .fault); place = r .place; more = r .more; found = 0; length = 0 }
 
 unfoldable pub itemAnswer : Span → RkwItem
 itemAnswer (span.Within start length) = record { refusal = 0; place = 0; more = 0; start = start; length = length }

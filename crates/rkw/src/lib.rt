@@ -2,6 +2,7 @@
 use block::Sized;
 use header::HeaderAnswer;
 use heap::Span;
+use node::NodeRead;
 use property::Property;
 use refusal::Refusal;
 use refusal::Verdict;
@@ -18,10 +19,11 @@ ghost use Rattle.page.specs.Page.{signature};
 ghost use Rattle.tree.specs.Tree.{treeFits};
 ghost use Rattle.tree.specs.Answers.{nodeOf, blockOf};
 ghost use Rattle.block.specs.Block.{room, testOf, readOf, filledOf};
+ghost use Rattle.node.specs.Content.{nodeContent, answerTo, filledBy};
 ghost use Rattle.heap.specs.Shape.{heapTest};
 ghost use Rattle.heap.specs.Items.{itemTest, itemSpan};
 ghost use Rattle.property.specs.Descent.{property as propertyIn};
-ghost use Rattle.rkw.specs.Answers.{verdictAnswer, headerAnswer, nodeAnswer, blockAnswer, sizeAnswer, lengthAnswer, itemAnswer, propertyAnswer, noNode, noBlock, valuedOf, noProperty};
+ghost use Rattle.rkw.specs.Answers.{verdictAnswer, headerAnswer, nodeAnswer, blockAnswer, sizeAnswer, lengthAnswer, dataAnswer, itemAnswer, propertyAnswer, noNode, noBlock, valuedOf, noProperty};
 
 #[repr(C)]
 pub struct RkwVerdict {
@@ -81,6 +83,15 @@ pub struct RkwLength {
     pub refusal: u64,
     pub place: u64,
     pub more: u64,
+    pub length: u64,
+}
+
+#[repr(C)]
+pub struct RkwData {
+    pub refusal: u64,
+    pub place: u64,
+    pub more: u64,
+    pub found: u64,
     pub length: u64,
 }
 
@@ -266,6 +277,34 @@ fn length_answer(answer: Sized) -> RkwLength
     }
 }
 
+fn data_answer(answer: NodeRead) -> RkwData
+    ensures { λ r. ⌜ r ≡ dataAnswer answer ⌝ }
+{
+    match answer {
+        NodeRead::Length(length) => RkwData {
+            refusal: 0,
+            place: 0,
+            more: 0,
+            found: 1,
+            length,
+        },
+        NodeRead::Absent => RkwData {
+            refusal: 0,
+            place: 0,
+            more: 0,
+            found: 0,
+            length: 0,
+        },
+        NodeRead::Refused(r) => RkwData {
+            refusal: number_in(r),
+            place: r.place,
+            more: r.more,
+            found: 0,
+            length: 0,
+        },
+    }
+}
+
 fn item_answer(answer: Span) -> RkwItem
     ensures { λ r. ⌜ r ≡ itemAnswer answer ⌝ }
 {
@@ -377,6 +416,14 @@ pub extern "C" fn rkw_read_block(image: &[u8], block: u64, out: &mut [u8]) -> Rk
     ensures buffer { λ _. ⌜ now (out .exit) ≡ filledOf (now (image .entry)) block (now (out .entry)) ⌝ }
 {
     length_answer(pst::read_block(image, block, out))
+}
+
+#[no_mangle]
+pub extern "C" fn rkw_read_node(image: &[u8], node: u64, out: &mut [u8]) -> RkwData
+    ensures answer { λ r. ⌜ r ≡ dataAnswer (answerTo (nodeContent (now (image .entry)) node) (length (now (out .entry)))) ⌝ }
+    ensures buffer { λ _. ⌜ now (out .exit) ≡ filledBy (nodeContent (now (image .entry)) node) (now (out .entry)) ⌝ }
+{
+    data_answer(pst::read_node(image, node, out))
 }
 
 #[no_mangle]
