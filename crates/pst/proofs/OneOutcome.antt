@@ -45,7 +45,7 @@ use Rattle.pst.proofs.room.Reads as room
 use Rattle.pst.proofs.room.Kinds as room-kinds
 
 -- two results that meet the contract at the same arguments are the same
-abbrev Single : (n : ℕ) (ps : List (PK n)) (r : RK n) → Out n ps r → Type 0
+abbrev pub Single : (n : ℕ) (ps : List (PK n)) (r : RK n) → Out n ps r → Type 0
 Single n ps r Post =
     (κs : Lfts n) (a : Dens κs ps) (x y : resT r κs .Denot) (s t : AtExit (endedOf n ps r) κs) → Post κs a x s → Post κs a y t → x ≡ y
 
