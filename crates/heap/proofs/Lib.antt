@@ -1,3 +1,2 @@
 pub mod ShapeLaws
 pub mod ItemLaws
-pub mod Marked

@@ -1,0 +1,3 @@
+pub mod Injective
+pub mod OneOutcome
+pub mod Marked

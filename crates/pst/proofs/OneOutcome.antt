@@ -1,0 +1,109 @@
+-- The contract of each public call leaves room for one outcome: the answer, and every byte of each buffer. Read off the contracts themselves. Assumes nothing.
+use mathlib.Core.Path.{_≡_, sym, _∙_}
+use mathlib.Core.List.{List}
+use Prim.Native.Nat.{ℕ}
+use contract.Lifetimes.{Lfts}
+use denote.Ref.{now}
+use denote.Triple.Clauses.{AtExit}
+use borrow.Fn.Kinds.{PK, RK, Out, Dens, resT, endedOf}
+use Rattle.pst.proofs.Injective.{verdict-injective, header-injective, node-injective, block-injective, sized-injective, data-injective, span-injective, property-injective}
+use Rattle.pst.proofs.header.Reads as header
+use Rattle.pst.proofs.header.Kinds as header-kinds
+use Rattle.pst.proofs.check_nodes.Reads as check-nodes
+use Rattle.pst.proofs.check_nodes.Kinds as check-nodes-kinds
+use Rattle.pst.proofs.check_blocks.Reads as check-blocks
+use Rattle.pst.proofs.check_blocks.Kinds as check-blocks-kinds
+use Rattle.pst.proofs.find_node.Reads as find-node
+use Rattle.pst.proofs.find_node.Kinds as find-node-kinds
+use Rattle.pst.proofs.find_block.Reads as find-block
+use Rattle.pst.proofs.find_block.Kinds as find-block-kinds
+use Rattle.pst.proofs.test_block.Reads as test-block
+use Rattle.pst.proofs.test_block.Kinds as test-block-kinds
+use Rattle.pst.proofs.read_block.Reads as read-block
+use Rattle.pst.proofs.read_block.Kinds as read-block-kinds
+use Rattle.pst.proofs.read_node.Reads as read-node
+use Rattle.pst.proofs.read_node.Kinds as read-node-kinds
+use Rattle.pst.proofs.encode.Reads as encode
+use Rattle.pst.proofs.encode.Kinds as encode-kinds
+use Rattle.pst.proofs.decode.Reads as decode
+use Rattle.pst.proofs.decode.Kinds as decode-kinds
+use Rattle.pst.proofs.test_heap.Reads as test-heap
+use Rattle.pst.proofs.test_heap.Kinds as test-heap-kinds
+use Rattle.pst.proofs.test_item.Reads as test-item
+use Rattle.pst.proofs.test_item.Kinds as test-item-kinds
+use Rattle.pst.proofs.item.Reads as item
+use Rattle.pst.proofs.item.Kinds as item-kinds
+use Rattle.pst.proofs.find_item.Reads as find-item
+use Rattle.pst.proofs.find_item.Kinds as find-item-kinds
+use Rattle.pst.proofs.find_property.Reads as find-property
+use Rattle.pst.proofs.find_property.Kinds as find-property-kinds
+use Rattle.pst.proofs.checksum.Reads as checksum
+use Rattle.pst.proofs.checksum.Kinds as checksum-kinds
+use Rattle.pst.proofs.signature.Reads as signature
+use Rattle.pst.proofs.signature.Kinds as signature-kinds
+use Rattle.pst.proofs.room.Reads as room
+use Rattle.pst.proofs.room.Kinds as room-kinds
+
+-- two results that meet the contract at the same arguments are the same
+abbrev pub Single : (n : ℕ) (ps : List (PK n)) (r : RK n) → Out n ps r → Type 0
+Single n ps r Post =
+    (κs : Lfts n) (a : Dens κs ps) (x y : resT r κs .Denot) (s t : AtExit (endedOf n ps r) κs) → Post κs a x s → Post κs a y t → x ≡ y
+
+header-single : Single 1 header-kinds.ps header-kinds.r header.Post
+header-single κs a x y s t p q = header-injective x y (p ∙ sym q)
+
+check-nodes-single : Single 1 check-nodes-kinds.ps check-nodes-kinds.r check-nodes.Post
+check-nodes-single κs a x y s t p q = verdict-injective x y (p ∙ sym q)
+
+check-blocks-single : Single 1 check-blocks-kinds.ps check-blocks-kinds.r check-blocks.Post
+check-blocks-single κs a x y s t p q = verdict-injective x y (p ∙ sym q)
+
+find-node-single : Single 1 find-node-kinds.ps find-node-kinds.r find-node.Post
+find-node-single κs a x y s t p q = node-injective x y (p ∙ sym q)
+
+find-block-single : Single 1 find-block-kinds.ps find-block-kinds.r find-block.Post
+find-block-single κs a x y s t p q = block-injective x y (p ∙ sym q)
+
+test-block-single : Single 1 test-block-kinds.ps test-block-kinds.r test-block.Post
+test-block-single κs a x y s t p q = sized-injective x y (p ∙ sym q)
+
+read-block-single : (κs : Lfts 2) (a : Dens κs read-block-kinds.ps) (x y : resT read-block-kinds.r κs .Denot) (s t : AtExit (endedOf 2 read-block-kinds.ps read-block-kinds.r) κs)
+    → read-block.Post κs a x s → read-block.Post κs a y t → (x ≡ y) × (now (s .1 .1 .0) ≡ now (t .1 .1 .0))
+read-block-single κs a x y s t p q = (sized-injective x y (p .0 ∙ sym (q .0)), p .1 ∙ sym (q .1))
+
+read-node-single : (κs : Lfts 2) (a : Dens κs read-node-kinds.ps) (x y : resT read-node-kinds.r κs .Denot) (s t : AtExit (endedOf 2 read-node-kinds.ps read-node-kinds.r) κs)
+    → read-node.Post κs a x s → read-node.Post κs a y t → (x ≡ y) × (now (s .1 .1 .0) ≡ now (t .1 .1 .0))
+read-node-single κs a x y s t p q = (data-injective x y (p .0 ∙ sym (q .0)), p .1 ∙ sym (q .1))
+
+encode-single : (κs : Lfts 1) (a : Dens κs encode-kinds.ps) (x y : resT encode-kinds.r κs .Denot) (s t : AtExit (endedOf 1 encode-kinds.ps encode-kinds.r) κs)
+    → encode.Post κs a x s → encode.Post κs a y t → (x ≡ y) × (now (s .1 .1 .0) ≡ now (t .1 .1 .0))
+encode-single κs a x y s t p q = (verdict-injective x y (p .0 ∙ sym (q .0)), p .1 ∙ sym (q .1))
+
+decode-single : (κs : Lfts 1) (a : Dens κs decode-kinds.ps) (x y : resT decode-kinds.r κs .Denot) (s t : AtExit (endedOf 1 decode-kinds.ps decode-kinds.r) κs)
+    → decode.Post κs a x s → decode.Post κs a y t → (x ≡ y) × (now (s .1 .1 .0) ≡ now (t .1 .1 .0))
+decode-single κs a x y s t p q = (verdict-injective x y (p .0 ∙ sym (q .0)), p .1 ∙ sym (q .1))
+
+test-heap-single : Single 1 test-heap-kinds.ps test-heap-kinds.r test-heap.Post
+test-heap-single κs a x y s t p q = verdict-injective x y (p ∙ sym q)
+
+test-item-single : Single 1 test-item-kinds.ps test-item-kinds.r test-item.Post
+test-item-single κs a x y s t p q = verdict-injective x y (p ∙ sym q)
+
+item-single : (κs : Lfts 1) (a : Dens κs item-kinds.ps) (x y : resT item-kinds.r κs .Denot) (s t : AtExit (endedOf 1 item-kinds.ps item-kinds.r) κs)
+    → item.Post κs a x s → item.Post κs a y t → now x ≡ now y
+item-single κs a x y s t p q = p ∙ sym q
+
+find-item-single : Single 1 find-item-kinds.ps find-item-kinds.r find-item.Post
+find-item-single κs a x y s t p q = span-injective x y (p ∙ sym q)
+
+find-property-single : Single 1 find-property-kinds.ps find-property-kinds.r find-property.Post
+find-property-single κs a x y s t p q = property-injective x y (p ∙ sym q)
+
+checksum-single : Single 1 checksum-kinds.ps checksum-kinds.r checksum.Post
+checksum-single κs a x y s t p q = p ∙ sym q
+
+signature-single : Single 0 signature-kinds.ps signature-kinds.r signature.Post
+signature-single κs a x y s t p q = p ∙ sym q
+
+room-single : Single 0 room-kinds.ps room-kinds.r room.Post
+room-single κs a x y s t p q = p ∙ sym q

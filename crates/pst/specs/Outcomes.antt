@@ -1,0 +1,88 @@
+-- The outcome of each public call, and each buffer at exit, as the rules give them. Assumes nothing: these are definitions.
+use Prim.Native.Nat.{ℕ}
+use mathlib.Core.List.{List}
+use lib.ListN.{length}
+use Rattle.crc.specs.Checksum.{checksum}
+use Rattle.coding.specs.Coding.{methodFits, encoded, decoded}
+use Rattle.header.specs.Header.{headerOf}
+use Rattle.page.specs.Layout.{nbt, bbt}
+use Rattle.page.specs.Page.{signature}
+use Rattle.tree.specs.Tree.{treeFits}
+use Rattle.tree.specs.Answers.{nodeOf, blockOf}
+use Rattle.block.specs.Block.{room, testOf, readOf, filledOf}
+use Rattle.node.specs.Content.{nodeContent, answerTo, filledBy}
+use Rattle.heap.specs.Shape.{heapTest}
+use Rattle.heap.specs.Items.{itemTest, itemOr, itemSpan}
+use Rattle.property.specs.Descent.{property}
+use Rattle.pst.specs.Meaning.{Meaning, verdictMeans, headerMeans, nodeMeans, blockMeans, sizedMeans, dataMeans, spanMeans, propertyMeans}
+
+unfoldable pub headerOutcome : List ℕ → Meaning
+headerOutcome image = headerMeans (headerOf image)
+
+-- the whole-tree checks
+unfoldable pub nodesOutcome : List ℕ → Meaning
+nodesOutcome image = verdictMeans (treeFits nbt image)
+
+unfoldable pub blocksOutcome : List ℕ → Meaning
+blocksOutcome image = verdictMeans (treeFits bbt image)
+
+-- the lookups
+unfoldable pub nodeOutcome : List ℕ → ℕ → Meaning
+nodeOutcome image node = nodeMeans (nodeOf image node)
+
+unfoldable pub blockOutcome : List ℕ → ℕ → Meaning
+blockOutcome image block = blockMeans (blockOf image block)
+
+-- 12 to 15 after what the lookup refuses
+unfoldable pub testOutcome : List ℕ → ℕ → Meaning
+testOutcome image block = sizedMeans (testOf image block)
+
+-- the same, then 17; and the buffer
+unfoldable pub readOutcome : List ℕ → ℕ → List ℕ → Meaning
+readOutcome image block out = sizedMeans (readOf image block (length out))
+
+unfoldable pub readBuffer : List ℕ → ℕ → List ℕ → List ℕ
+readBuffer image block out = filledOf image block out
+
+-- the data of a node, and the buffer
+unfoldable pub dataOutcome : List ℕ → ℕ → List ℕ → Meaning
+dataOutcome image node out = dataMeans (answerTo (nodeContent image node) (length out))
+
+unfoldable pub dataBuffer : List ℕ → ℕ → List ℕ → List ℕ
+dataBuffer image node out = filledBy (nodeContent image node) out
+
+-- encoding and decoding answer alike
+unfoldable pub codeOutcome : ℕ → Meaning
+codeOutcome method = verdictMeans (methodFits method)
+
+unfoldable pub encodeBuffer : ℕ → ℕ → List ℕ → List ℕ
+encodeBuffer method block bytes = encoded method block bytes
+
+unfoldable pub decodeBuffer : ℕ → ℕ → List ℕ → List ℕ
+decodeBuffer method block bytes = decoded method block bytes
+
+unfoldable pub heapOutcome : List ℕ → Meaning
+heapOutcome block = verdictMeans (heapTest block)
+
+unfoldable pub testItemOutcome : List ℕ → ℕ → Meaning
+testItemOutcome block item = verdictMeans (itemTest block item)
+
+-- the bytes of the part
+unfoldable pub itemOutcome : List ℕ → ℕ → List ℕ
+itemOutcome block item = itemOr block item
+
+-- where the part stands
+unfoldable pub spanOutcome : List ℕ → ℕ → Meaning
+spanOutcome block item = spanMeans (itemSpan block item)
+
+unfoldable pub propertyOutcome : List ℕ → ℕ → Meaning
+propertyOutcome block id = propertyMeans (property block id)
+
+unfoldable pub checksumOutcome : List ℕ → ℕ
+checksumOutcome bytes = checksum bytes
+
+unfoldable pub signatureOutcome : ℕ → ℕ → ℕ
+signatureOutcome offset number = signature offset number
+
+unfoldable pub roomOutcome : ℕ → ℕ
+roomOutcome size = room size

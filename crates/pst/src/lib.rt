@@ -1,0 +1,140 @@
+// The public calls. None asks for anything beforehand: any bytes and any numbers may be given.
+use block::Sized;
+use header::HeaderAnswer;
+use heap::Span;
+use node::NodeRead;
+use property::Property;
+use refusal::Verdict;
+use tree::FoundBlock;
+use tree::FoundNode;
+ghost use mathlib.Core.Path.{_≡_};
+ghost use Rattle.pst.specs.Meaning.{verdictMeans, headerMeans, nodeMeans, blockMeans, sizedMeans, dataMeans, spanMeans, propertyMeans};
+ghost use Rattle.pst.specs.Outcomes.{headerOutcome, nodesOutcome, blocksOutcome, nodeOutcome, blockOutcome, testOutcome, readOutcome, readBuffer, dataOutcome, dataBuffer, codeOutcome, encodeBuffer, decodeBuffer, heapOutcome, testItemOutcome, itemOutcome, spanOutcome, propertyOutcome, checksumOutcome, signatureOutcome, roomOutcome};
+
+// What the header says.
+pub fn header(image: &[u8]) -> HeaderAnswer
+    ensures { λ r. ⌜ headerMeans r ≡ headerOutcome (now (image .entry)) ⌝ }
+{
+    header::header_of(image)
+}
+
+// The whole-tree check of the node tree.
+pub fn check_nodes(image: &[u8]) -> Verdict
+    ensures { λ r. ⌜ verdictMeans r ≡ nodesOutcome (now (image .entry)) ⌝ }
+{
+    tree::check_nodes(image)
+}
+
+// The whole-tree check of the block tree.
+pub fn check_blocks(image: &[u8]) -> Verdict
+    ensures { λ r. ⌜ verdictMeans r ≡ blocksOutcome (now (image .entry)) ⌝ }
+{
+    tree::check_blocks(image)
+}
+
+// A node by the low four bytes of its number.
+pub fn find_node(image: &[u8], node: u64) -> FoundNode
+    ensures { λ r. ⌜ nodeMeans r ≡ nodeOutcome (now (image .entry)) node ⌝ }
+{
+    tree::find_node(image, node)
+}
+
+// A block by its number.
+pub fn find_block(image: &[u8], block: u64) -> FoundBlock
+    ensures { λ r. ⌜ blockMeans r ≡ blockOutcome (now (image .entry)) block ⌝ }
+{
+    tree::find_block(image, block)
+}
+
+// A block's size, after its tests.
+pub fn test_block(image: &[u8], block: u64) -> Sized
+    ensures { λ r. ⌜ sizedMeans r ≡ testOutcome (now (image .entry)) block ⌝ }
+{
+    block::test_block(image, block)
+}
+
+// A block's bytes at the front of `out`, decoded unless the block is internal.
+pub fn read_block(image: &[u8], block: u64, out: &mut [u8]) -> Sized
+    ensures answer { λ r. ⌜ sizedMeans r ≡ readOutcome (now (image .entry)) block (now (out .entry)) ⌝ }
+    ensures buffer { λ _. ⌜ now (out .exit) ≡ readBuffer (now (image .entry)) block (now (out .entry)) ⌝ }
+{
+    block::read_block(image, block, out)
+}
+
+// The data of a node at the front of `out`.
+pub fn read_node(image: &[u8], node: u64, out: &mut [u8]) -> NodeRead
+    ensures answer { λ r. ⌜ dataMeans r ≡ dataOutcome (now (image .entry)) node (now (out .entry)) ⌝ }
+    ensures buffer { λ _. ⌜ now (out .exit) ≡ dataBuffer (now (image .entry)) node (now (out .entry)) ⌝ }
+{
+    node::read_node(image, node, out)
+}
+
+// Encodes the bytes in place.
+pub fn encode(method: u8, block: u64, bytes: &mut [u8]) -> Verdict
+    ensures answer { λ r. ⌜ verdictMeans r ≡ codeOutcome method ⌝ }
+    ensures buffer { λ _. ⌜ now (bytes .exit) ≡ encodeBuffer method block (now (bytes .entry)) ⌝ }
+{
+    coding::encode(method, block, bytes)
+}
+
+// Decodes the bytes in place.
+pub fn decode(method: u8, block: u64, bytes: &mut [u8]) -> Verdict
+    ensures answer { λ r. ⌜ verdictMeans r ≡ codeOutcome method ⌝ }
+    ensures buffer { λ _. ⌜ now (bytes .exit) ≡ decodeBuffer method block (now (bytes .entry)) ⌝ }
+{
+    coding::decode(method, block, bytes)
+}
+
+// The shape of a heap on one decoded block.
+pub fn test_heap(block: &[u8]) -> Verdict
+    ensures { λ r. ⌜ verdictMeans r ≡ heapOutcome (now (block .entry)) ⌝ }
+{
+    heap::test_heap(block)
+}
+
+// The shape of the heap, then the item's number.
+pub fn test_item(block: &[u8], item: u32) -> Verdict
+    ensures { λ r. ⌜ verdictMeans r ≡ testItemOutcome (now (block .entry)) item ⌝ }
+{
+    heap::test_item(block, item)
+}
+
+// The item as a part of the caller's block; the empty part for whatever the test refuses.
+pub fn item<'a>(block: &'a [u8], item: u32) -> &'a [u8]
+    ensures { λ r. ⌜ now r ≡ itemOutcome (now (block .entry)) item ⌝ }
+{
+    heap::item_of(block, item)
+}
+
+// Where the item starts in the caller's block and how long it is.
+pub fn find_item(block: &[u8], item: u32) -> Span
+    ensures { λ r. ⌜ spanMeans r ≡ spanOutcome (now (block .entry)) item ⌝ }
+{
+    heap::find_item(block, item)
+}
+
+// A property of the heap on the block.
+pub fn find_property(block: &[u8], id: u16) -> Property
+    ensures { λ r. ⌜ propertyMeans r ≡ propertyOutcome (now (block .entry)) id ⌝ }
+{
+    property::find_property(block, id)
+}
+
+pub fn checksum(bytes: &[u8]) -> u32
+    ensures { λ r. ⌜ r ≡ checksumOutcome (now (bytes .entry)) ⌝ }
+{
+    crc::checksum(bytes)
+}
+
+pub fn signature(offset: u64, number: u64) -> u16
+    ensures { λ r. ⌜ r ≡ signatureOutcome offset number ⌝ }
+{
+    page::signature(offset, number)
+}
+
+// The room of a block with so many bytes of data.
+pub fn room(size: u32) -> u64
+    ensures { λ r. ⌜ r ≡ roomOutcome size ⌝ }
+{
+    block::room(size)
+}

@@ -1,0 +1,492 @@
+// The public calls for C and other hosts, as include/rekwonuda.h documents them.
+use block::Sized;
+use header::HeaderAnswer;
+use heap::Span;
+use node::NodeRead;
+use property::Property;
+use refusal::Refusal;
+use refusal::Verdict;
+use tree::FoundBlock;
+use tree::FoundNode;
+ghost use mathlib.Core.Path.{_≡_};
+ghost use lib.ListN.{length};
+ghost use Rattle.refusal.specs.Number.{number};
+ghost use Rattle.crc.specs.Checksum.{checksum};
+ghost use Rattle.coding.specs.Coding.{methodFits, encoded, decoded};
+ghost use Rattle.header.specs.Header.{headerOf};
+ghost use Rattle.page.specs.Layout.{nbt, bbt};
+ghost use Rattle.page.specs.Page.{signature};
+ghost use Rattle.tree.specs.Tree.{treeFits};
+ghost use Rattle.tree.specs.Answers.{nodeOf, blockOf};
+ghost use Rattle.block.specs.Block.{room, testOf, readOf, filledOf};
+ghost use Rattle.node.specs.Content.{nodeContent, answerTo, filledBy};
+ghost use Rattle.heap.specs.Shape.{heapTest};
+ghost use Rattle.heap.specs.Items.{itemTest, itemSpan};
+ghost use Rattle.property.specs.Descent.{property as propertyIn};
+ghost use Rattle.rkw.specs.Answers.{verdictAnswer, headerAnswer, nodeAnswer, blockAnswer, sizeAnswer, lengthAnswer, dataAnswer, itemAnswer, propertyAnswer, noNode, noBlock, valuedOf, noProperty};
+
+#[repr(C)]
+pub struct RkwVerdict {
+    pub refusal: u64,
+    pub place: u64,
+    pub more: u64,
+}
+
+#[repr(C)]
+pub struct RkwHeader {
+    pub refusal: u64,
+    pub place: u64,
+    pub more: u64,
+    pub method: u64,
+    pub nodes_number: u64,
+    pub nodes_offset: u64,
+    pub blocks_number: u64,
+    pub blocks_offset: u64,
+}
+
+#[repr(C)]
+pub struct RkwNode {
+    pub refusal: u64,
+    pub place: u64,
+    pub more: u64,
+    pub found: u64,
+    pub pages: u64,
+    pub node: u64,
+    pub data: u64,
+    pub subnode: u64,
+    pub parent: u64,
+}
+
+#[repr(C)]
+pub struct RkwBlock {
+    pub refusal: u64,
+    pub place: u64,
+    pub more: u64,
+    pub found: u64,
+    pub pages: u64,
+    pub block: u64,
+    pub offset: u64,
+    pub size: u64,
+    pub references: u64,
+}
+
+#[repr(C)]
+pub struct RkwSize {
+    pub refusal: u64,
+    pub place: u64,
+    pub more: u64,
+    pub size: u64,
+}
+
+#[repr(C)]
+pub struct RkwLength {
+    pub refusal: u64,
+    pub place: u64,
+    pub more: u64,
+    pub length: u64,
+}
+
+#[repr(C)]
+pub struct RkwData {
+    pub refusal: u64,
+    pub place: u64,
+    pub more: u64,
+    pub found: u64,
+    pub length: u64,
+}
+
+#[repr(C)]
+pub struct RkwItem {
+    pub refusal: u64,
+    pub place: u64,
+    pub more: u64,
+    pub start: u64,
+    pub length: u64,
+}
+
+// The property's type is called `type` in C.
+#[repr(C)]
+pub struct RkwProperty {
+    pub refusal: u64,
+    pub place: u64,
+    pub more: u64,
+    pub found: u64,
+    pub code: u64,
+    pub kind: u64,
+    pub value: u64,
+}
+
+fn number_in(refusal: Refusal) -> u64
+    ensures { λ r. ⌜ r ≡ number (refusal .fault) ⌝ }
+{
+    let fault = refusal.fault;
+    refusal::number_of(fault) as u64
+}
+
+fn verdict_answer(answer: Verdict) -> RkwVerdict
+    ensures { λ r. ⌜ r ≡ verdictAnswer answer ⌝ }
+{
+    match answer {
+        Verdict::Accepted => RkwVerdict {
+            refusal: 0,
+            place: 0,
+            more: 0,
+        },
+        Verdict::Refused(r) => RkwVerdict {
+            refusal: number_in(r),
+            place: r.place,
+            more: r.more,
+        },
+    }
+}
+
+fn header_answer(answer: HeaderAnswer) -> RkwHeader
+    ensures { λ r. ⌜ r ≡ headerAnswer answer ⌝ }
+{
+    match answer {
+        HeaderAnswer::Says(h) => RkwHeader {
+            refusal: 0,
+            place: 0,
+            more: 0,
+            method: h.method as u64,
+            nodes_number: h.nodes.number,
+            nodes_offset: h.nodes.offset,
+            blocks_number: h.blocks.number,
+            blocks_offset: h.blocks.offset,
+        },
+        HeaderAnswer::Refused(r) => RkwHeader {
+            refusal: number_in(r),
+            place: r.place,
+            more: r.more,
+            method: 0,
+            nodes_number: 0,
+            nodes_offset: 0,
+            blocks_number: 0,
+            blocks_offset: 0,
+        },
+    }
+}
+
+fn node_answer(answer: FoundNode) -> RkwNode
+    ensures { λ r. ⌜ r ≡ nodeAnswer answer ⌝ }
+{
+    match answer {
+        FoundNode::Found(n, pages) => RkwNode {
+            refusal: 0,
+            place: 0,
+            more: 0,
+            found: 1,
+            pages,
+            node: n.node,
+            data: n.block,
+            subnode: n.subnode,
+            parent: n.parent,
+        },
+        FoundNode::Absent(pages) => no_node(0, 0, 0, pages),
+        FoundNode::Refused(r) => no_node(number_in(r), r.place, r.more, 0),
+    }
+}
+
+fn no_node(refusal: u64, place: u64, more: u64, pages: u64) -> RkwNode
+    ensures { λ r. ⌜ r ≡ noNode refusal place more pages ⌝ }
+{
+    RkwNode {
+        refusal,
+        place,
+        more,
+        found: 0,
+        pages,
+        node: 0,
+        data: 0,
+        subnode: 0,
+        parent: 0,
+    }
+}
+
+fn block_answer(answer: FoundBlock) -> RkwBlock
+    ensures { λ r. ⌜ r ≡ blockAnswer answer ⌝ }
+{
+    match answer {
+        FoundBlock::Found(b, pages) => RkwBlock {
+            refusal: 0,
+            place: 0,
+            more: 0,
+            found: 1,
+            pages,
+            block: b.block,
+            offset: b.offset,
+            size: b.size,
+            references: b.references,
+        },
+        FoundBlock::Absent(pages) => no_block(0, 0, 0, pages),
+        FoundBlock::Refused(r) => no_block(number_in(r), r.place, r.more, 0),
+    }
+}
+
+fn no_block(refusal: u64, place: u64, more: u64, pages: u64) -> RkwBlock
+    ensures { λ r. ⌜ r ≡ noBlock refusal place more pages ⌝ }
+{
+    RkwBlock {
+        refusal,
+        place,
+        more,
+        found: 0,
+        pages,
+        block: 0,
+        offset: 0,
+        size: 0,
+        references: 0,
+    }
+}
+
+fn size_answer(answer: Sized) -> RkwSize
+    ensures { λ r. ⌜ r ≡ sizeAnswer answer ⌝ }
+{
+    match answer {
+        Sized::Size(size) => RkwSize {
+            refusal: 0,
+            place: 0,
+            more: 0,
+            size,
+        },
+        Sized::Refused(r) => RkwSize {
+            refusal: number_in(r),
+            place: r.place,
+            more: r.more,
+            size: 0,
+        },
+    }
+}
+
+fn length_answer(answer: Sized) -> RkwLength
+    ensures { λ r. ⌜ r ≡ lengthAnswer answer ⌝ }
+{
+    match answer {
+        Sized::Size(length) => RkwLength {
+            refusal: 0,
+            place: 0,
+            more: 0,
+            length,
+        },
+        Sized::Refused(r) => RkwLength {
+            refusal: number_in(r),
+            place: r.place,
+            more: r.more,
+            length: 0,
+        },
+    }
+}
+
+fn data_answer(answer: NodeRead) -> RkwData
+    ensures { λ r. ⌜ r ≡ dataAnswer answer ⌝ }
+{
+    match answer {
+        NodeRead::Length(length) => RkwData {
+            refusal: 0,
+            place: 0,
+            more: 0,
+            found: 1,
+            length,
+        },
+        NodeRead::Absent => RkwData {
+            refusal: 0,
+            place: 0,
+            more: 0,
+            found: 0,
+            length: 0,
+        },
+        NodeRead::Refused(r) => RkwData {
+            refusal: number_in(r),
+            place: r.place,
+            more: r.more,
+            found: 0,
+            length: 0,
+        },
+    }
+}
+
+fn item_answer(answer: Span) -> RkwItem
+    ensures { λ r. ⌜ r ≡ itemAnswer answer ⌝ }
+{
+    match answer {
+        Span::Within(start, length) => RkwItem {
+            refusal: 0,
+            place: 0,
+            more: 0,
+            start: start as u64,
+            length: length as u64,
+        },
+        Span::Refused(r) => RkwItem {
+            refusal: number_in(r),
+            place: r.place,
+            more: r.more,
+            start: 0,
+            length: 0,
+        },
+    }
+}
+
+// A property that is there: its type, the kind of its value, and the value.
+fn valued(code: u16, kind: u64, value: u32) -> RkwProperty
+    ensures { λ r. ⌜ r ≡ valuedOf code kind value ⌝ }
+{
+    RkwProperty {
+        refusal: 0,
+        place: 0,
+        more: 0,
+        found: 1,
+        code: code as u64,
+        kind,
+        value: value as u64,
+    }
+}
+
+fn no_property(refusal: u64, place: u64, more: u64) -> RkwProperty
+    ensures { λ r. ⌜ r ≡ noProperty refusal place more ⌝ }
+{
+    RkwProperty {
+        refusal,
+        place,
+        more,
+        found: 0,
+        code: 0,
+        kind: 0,
+        value: 0,
+    }
+}
+
+fn property_answer(answer: Property) -> RkwProperty
+    ensures { λ r. ⌜ r ≡ propertyAnswer answer ⌝ }
+{
+    match answer {
+        Property::Number(code, value) => valued(code, 0, value),
+        Property::Empty(code) => valued(code, 1, 0),
+        Property::Item(code, item) => valued(code, 2, item),
+        Property::Subnode(code, subnode) => valued(code, 3, subnode),
+        Property::Absent => no_property(0, 0, 0),
+        Property::Refused(r) => no_property(number_in(r), r.place, r.more),
+    }
+}
+
+#[no_mangle]
+pub extern "C" fn rkw_header(image: &[u8]) -> RkwHeader
+    ensures { λ r. ⌜ r ≡ headerAnswer (headerOf (now (image .entry))) ⌝ }
+{
+    header_answer(pst::header(image))
+}
+
+#[no_mangle]
+pub extern "C" fn rkw_check_nodes(image: &[u8]) -> RkwVerdict
+    ensures { λ r. ⌜ r ≡ verdictAnswer (treeFits nbt (now (image .entry))) ⌝ }
+{
+    verdict_answer(pst::check_nodes(image))
+}
+
+#[no_mangle]
+pub extern "C" fn rkw_check_blocks(image: &[u8]) -> RkwVerdict
+    ensures { λ r. ⌜ r ≡ verdictAnswer (treeFits bbt (now (image .entry))) ⌝ }
+{
+    verdict_answer(pst::check_blocks(image))
+}
+
+#[no_mangle]
+pub extern "C" fn rkw_find_node(image: &[u8], node: u64) -> RkwNode
+    ensures { λ r. ⌜ r ≡ nodeAnswer (nodeOf (now (image .entry)) node) ⌝ }
+{
+    node_answer(pst::find_node(image, node))
+}
+
+#[no_mangle]
+pub extern "C" fn rkw_find_block(image: &[u8], block: u64) -> RkwBlock
+    ensures { λ r. ⌜ r ≡ blockAnswer (blockOf (now (image .entry)) block) ⌝ }
+{
+    block_answer(pst::find_block(image, block))
+}
+
+#[no_mangle]
+pub extern "C" fn rkw_test_block(image: &[u8], block: u64) -> RkwSize
+    ensures { λ r. ⌜ r ≡ sizeAnswer (testOf (now (image .entry)) block) ⌝ }
+{
+    size_answer(pst::test_block(image, block))
+}
+
+#[no_mangle]
+pub extern "C" fn rkw_read_block(image: &[u8], block: u64, out: &mut [u8]) -> RkwLength
+    ensures answer { λ r. ⌜ r ≡ lengthAnswer (readOf (now (image .entry)) block (length (now (out .entry)))) ⌝ }
+    ensures buffer { λ _. ⌜ now (out .exit) ≡ filledOf (now (image .entry)) block (now (out .entry)) ⌝ }
+{
+    length_answer(pst::read_block(image, block, out))
+}
+
+#[no_mangle]
+pub extern "C" fn rkw_read_node(image: &[u8], node: u64, out: &mut [u8]) -> RkwData
+    ensures answer { λ r. ⌜ r ≡ dataAnswer (answerTo (nodeContent (now (image .entry)) node) (length (now (out .entry)))) ⌝ }
+    ensures buffer { λ _. ⌜ now (out .exit) ≡ filledBy (nodeContent (now (image .entry)) node) (now (out .entry)) ⌝ }
+{
+    data_answer(pst::read_node(image, node, out))
+}
+
+#[no_mangle]
+pub extern "C" fn rkw_encode(method: u8, block: u64, bytes: &mut [u8]) -> RkwVerdict
+    ensures answer { λ r. ⌜ r ≡ verdictAnswer (methodFits method) ⌝ }
+    ensures buffer { λ _. ⌜ now (bytes .exit) ≡ encoded method block (now (bytes .entry)) ⌝ }
+{
+    verdict_answer(pst::encode(method, block, bytes))
+}
+
+#[no_mangle]
+pub extern "C" fn rkw_decode(method: u8, block: u64, bytes: &mut [u8]) -> RkwVerdict
+    ensures answer { λ r. ⌜ r ≡ verdictAnswer (methodFits method) ⌝ }
+    ensures buffer { λ _. ⌜ now (bytes .exit) ≡ decoded method block (now (bytes .entry)) ⌝ }
+{
+    verdict_answer(pst::decode(method, block, bytes))
+}
+
+#[no_mangle]
+pub extern "C" fn rkw_test_heap(block: &[u8]) -> RkwVerdict
+    ensures { λ r. ⌜ r ≡ verdictAnswer (heapTest (now (block .entry))) ⌝ }
+{
+    verdict_answer(pst::test_heap(block))
+}
+
+#[no_mangle]
+pub extern "C" fn rkw_test_item(block: &[u8], item: u32) -> RkwVerdict
+    ensures { λ r. ⌜ r ≡ verdictAnswer (itemTest (now (block .entry)) item) ⌝ }
+{
+    verdict_answer(pst::test_item(block, item))
+}
+
+#[no_mangle]
+pub extern "C" fn rkw_item(block: &[u8], item: u32) -> RkwItem
+    ensures { λ r. ⌜ r ≡ itemAnswer (itemSpan (now (block .entry)) item) ⌝ }
+{
+    item_answer(pst::find_item(block, item))
+}
+
+#[no_mangle]
+pub extern "C" fn rkw_find_property(block: &[u8], id: u16) -> RkwProperty
+    ensures { λ r. ⌜ r ≡ propertyAnswer (propertyIn (now (block .entry)) id) ⌝ }
+{
+    property_answer(pst::find_property(block, id))
+}
+
+#[no_mangle]
+pub extern "C" fn rkw_checksum(bytes: &[u8]) -> u64
+    ensures { λ r. ⌜ r ≡ checksum (now (bytes .entry)) ⌝ }
+{
+    pst::checksum(bytes) as u64
+}
+
+#[no_mangle]
+pub extern "C" fn rkw_signature(offset: u64, number: u64) -> u64
+    ensures { λ r. ⌜ r ≡ signature offset number ⌝ }
+{
+    pst::signature(offset, number) as u64
+}
+
+#[no_mangle]
+pub extern "C" fn rkw_room(size: u32) -> u64
+    ensures { λ r. ⌜ r ≡ room size ⌝ }
+{
+    pst::room(size)
+}

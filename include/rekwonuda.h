@@ -1,0 +1,179 @@
+/* Rekwonuda: a reader of Outlook .pst files of the 64-bit ("Unicode") edition.
+ *
+ * What may be given. Any bytes and any numbers. Nothing needs checking beforehand: no call crashes,
+ * reads or writes outside what it was lent, or runs on without end, whatever the bytes say. The one
+ * duty of a caller is that a pointer and the length behind it are true: so many bytes can be read
+ * there, and written where the parameter is not const. An empty area may come with any pointer that
+ * is not null.
+ *
+ * While a call runs, the image (or block) that it was lent must not change, and `out` must not
+ * overlap it. A call keeps nothing: it may run in several threads at once, on one image too.
+ *
+ * Every answer but a bare number begins with these three fields:
+ *   refusal  0 where the call is answered, else the number of the first fault met (below)
+ *   place    the place of that fault: an offset in the image, or 0
+ *   more     what else the refusal says: for 17 the length needed, otherwise 0
+ * A field that an answer does not use is 0. A refused call leaves every byte of a buffer as it was.
+ * "Absent" is an ordinary answer and no refusal: `found` is 0 where it is absent, 1 where it is there.
+ * All offsets are in bytes and begin at 0.
+ *
+ * Refusals, each with its place:
+ *    1  the image is under 564 or over 1,073,741,824 bytes long; 0
+ *    2  the magic bytes are wrong; 0 or 8
+ *    3  the version is not 23, that of the 64-bit edition; 10
+ *    4  a checksum of the header differs; 4 or 524
+ *    5  the header's sentinel or encoding method is wrong; 512 or 513. From rkw_encode and
+ *       rkw_decode: the method is over 2; 0
+ *    6  the offset of a page is not allowed; that offset
+ *    7  the kind of a page is wrong; the page's offset
+ *    8  the number or signature of a page is wrong; the page's offset
+ *    9  the checksum of a page differs; the page's offset
+ *   10  the counts or the level of a page are wrong; the page's offset
+ *   11  the keys of a page do not ascend, or lie outside the page's range; the page's offset
+ *   12  a block to be tested or read is not in the block tree; 0
+ *   13  the offset or size of a block is not allowed; the block's offset
+ *   14  the trailer of a block is wrong; the block's offset
+ *   15  the checksum of a block differs; the block's offset
+ *   16  the shape of a data tree is wrong; the offset of its root block
+ *   17  the buffer is shorter than the data; 0, and `more` is the length needed
+ *   18  the shape of a heap is wrong; 0
+ *   19  the number of a heap item is wrong; 0
+ *   20  the shape of a property tree is wrong; 0
+ */
+#ifndef REKWONUDA_H
+#define REKWONUDA_H
+
+#include <stddef.h>
+#include <stdint.h>
+
+#ifdef __cplusplus
+extern "C" {
+#endif
+
+/* Accepted or done (refusal 0), or refused. */
+struct rkw_answer {
+    uint64_t refusal, place, more;
+};
+
+/* What the header says. method: how block data is encoded, 0 not at all, 1 permute, 2 cyclic.
+ * nodes_number, nodes_offset: the number and the offset of the root page of the node tree;
+ * blocks_number, blocks_offset: of the root page of the block tree. */
+struct rkw_header_answer {
+    uint64_t refusal, place, more;
+    uint64_t method, nodes_number, nodes_offset, blocks_number, blocks_offset;
+};
+
+/* A node. found: 1 or 0. pages: how many pages were read, also where the node is absent.
+ * node: its number; data: the number of its data block, 0 for none; subnode: the number of its
+ * subnode block, 0 for none; parent: the number of its parent node. */
+struct rkw_node_answer {
+    uint64_t refusal, place, more;
+    uint64_t found, pages, node, data, subnode, parent;
+};
+
+/* A block as it is listed. found and pages as for a node. block: its number as stored;
+ * offset: where it starts in the image; size: its bytes; references: how often it is referred to. */
+struct rkw_block_answer {
+    uint64_t refusal, place, more;
+    uint64_t found, pages, block, offset, size, references;
+};
+
+/* size: how many bytes the block holds. */
+struct rkw_size_answer {
+    uint64_t refusal, place, more;
+    uint64_t size;
+};
+
+/* length: how many bytes now stand at the front of `out`. */
+struct rkw_length_answer {
+    uint64_t refusal, place, more;
+    uint64_t length;
+};
+
+/* The data of a node. found: 1 or 0. length: how many bytes now stand at the front of `out`; 0 for a
+ * node without data. */
+struct rkw_data_answer {
+    uint64_t refusal, place, more;
+    uint64_t found, length;
+};
+
+/* Where an item stands in the caller's block: its first byte, and how many bytes it has. */
+struct rkw_item_answer {
+    uint64_t refusal, place, more;
+    uint64_t start, length;
+};
+
+/* A property. found: 1 or 0. type: its type code. kind says what value is: 0, the value itself, as
+ * a number; 1, nothing: the property is empty, and value is 0; 2, the number of the heap item that
+ * holds the value; 3, the number of the subnode that holds it. */
+struct rkw_property_answer {
+    uint64_t refusal, place, more;
+    uint64_t found, type, kind, value;
+};
+
+/* The image: the bytes of a .pst file, from its first. */
+
+/* Tests the header and says what stands in it. Refusals 1 to 5. */
+struct rkw_header_answer rkw_header(const uint8_t *image, size_t len);
+
+/* Checks the header and then the whole node tree, or the whole block tree. Refusals 1 to 11. */
+struct rkw_answer rkw_check_nodes(const uint8_t *image, size_t len);
+struct rkw_answer rkw_check_blocks(const uint8_t *image, size_t len);
+
+/* Looks up a node by the low four bytes of its number. The header and every page on the way are
+ * checked in full. Refusals 1 to 11. */
+struct rkw_node_answer rkw_find_node(const uint8_t *image, size_t len, uint64_t node);
+
+/* Looks up a block by its number, with the same checks. Refusals 1 to 11. */
+struct rkw_block_answer rkw_find_block(const uint8_t *image, size_t len, uint64_t block);
+
+/* Looks up a block and tests its place, trailer and checksum. Refusals 1 to 15. */
+struct rkw_size_answer rkw_test_block(const uint8_t *image, size_t len, uint64_t block);
+
+/* Tests a block and puts its bytes at the front of `out`: decoded by the header's method, or as they
+ * are stored where the block is internal (bit 1, of value 2, of its number). What follows them in
+ * `out` stays as it was. No block has more than 8,176 bytes. Refusals 1 to 15, and 17. */
+struct rkw_length_answer rkw_read_block(const uint8_t *image, size_t len, uint64_t block, uint8_t *out, size_t out_len);
+
+/* Looks up a node and puts its data at the front of `out`: the bytes of its data block, or, where that
+ * is internal, of the blocks that it lists, one right behind the other, each tested and decoded. What
+ * follows them in `out` stays as it was. The data of a node has at most 8,347,696 bytes; called with
+ * out_len 0, the call says in `more` of refusal 17 how many there are. Refusals 1 to 17. */
+struct rkw_data_answer rkw_read_node(const uint8_t *image, size_t len, uint64_t node, uint8_t *out, size_t out_len);
+
+/* Encodes, or decodes, `bytes` in place as the data of that block: method 0 leaves them, 1 is permute,
+ * 2 is cyclic. Works on any length and under any block number. Refusal 5, place 0. */
+struct rkw_answer rkw_encode(uint8_t method, uint64_t block, uint8_t *bytes, size_t len);
+struct rkw_answer rkw_decode(uint8_t method, uint64_t block, uint8_t *bytes, size_t len);
+
+/* The block: the bytes of one block with a heap on it, decoded, as rkw_read_block hands them out. */
+
+/* Tests the shape of the heap. Refusal 18. */
+struct rkw_answer rkw_test_heap(const uint8_t *block, size_t len);
+
+/* Tests the heap and then the number of an item. Refusals 18 and 19. */
+struct rkw_answer rkw_test_item(const uint8_t *block, size_t len, uint32_t item);
+
+/* Says where an item stands in the caller's block; nothing is copied. An item may be empty: it then
+ * has a start, and length 0. Refusals as by rkw_test_item. */
+struct rkw_item_answer rkw_item(const uint8_t *block, size_t len, uint32_t item);
+
+/* Looks up a property by its id. A value that is an item (kind 2) has been tested: rkw_item accepts
+ * its number. Refusals 18 to 20. */
+struct rkw_property_answer rkw_find_property(const uint8_t *block, size_t len, uint16_t id);
+
+/* The checksum of the bytes: polynomial EDB88320 hex, reflected, start 0, no inversion. Under 2^32. */
+uint64_t rkw_checksum(const uint8_t *bytes, size_t len);
+
+/* The signature of a page or block at that offset and with that number. Under 65,536. */
+uint64_t rkw_signature(uint64_t offset, uint64_t number);
+
+/* The room that a block with so many bytes of data takes in a file: the smallest multiple of 64 that
+ * holds size + 16. */
+uint64_t rkw_room(uint32_t size);
+
+#ifdef __cplusplus
+}
+#endif
+
+#endif
