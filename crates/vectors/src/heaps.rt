@@ -1,30 +1,13 @@
 // 003, 3.8 to 3.11: the heap of a message store's properties and that of a table, their items and properties.
+use crate::answers;
 use crate::text;
 use heap::Span;
 use libc::STDOUT_FILENO;
 use property::Property;
-use refusal::Refusal;
-use refusal::Verdict;
-
-fn say_refusal(wrong: Refusal) {
-    let fault = wrong.fault;
-    text::say(b"refused ");
-    io::print_decimal(STDOUT_FILENO, refusal::number_of(fault) as u64);
-    text::say(b" at place ");
-    io::print_decimal(STDOUT_FILENO, wrong.place);
-    text::say(b"\n");
-}
-
-fn say_verdict(verdict: Verdict) {
-    match verdict {
-        Verdict::Refused(wrong) => say_refusal(wrong),
-        Verdict::Accepted => text::say(b"accepted\n"),
-    }
-}
 
 fn say_span(span: Span) {
     match span {
-        Span::Refused(wrong) => say_refusal(wrong),
+        Span::Refused(wrong) => answers::say_refusal(wrong),
         Span::Within(start, size) => {
             io::print_decimal(STDOUT_FILENO, size as u64);
             text::say(b" bytes at ");
@@ -62,7 +45,7 @@ fn say_property(answer: Property) {
         Property::Item(code, value) => say_value(code, b", item ", value),
         Property::Subnode(code, value) => say_value(code, b", subnode ", value),
         Property::Absent => text::say(b"absent\n"),
-        Property::Refused(wrong) => say_refusal(wrong),
+        Property::Refused(wrong) => answers::say_refusal(wrong),
     }
 }
 
@@ -71,7 +54,7 @@ fn heap_line(section: &[u8], block: &[u8]) {
     text::say(b" test_heap of ");
     io::print_decimal(STDOUT_FILENO, block.len() as u64);
     text::say(b" bytes: ");
-    say_verdict(heap::test_heap(block));
+    answers::say_verdict(heap::test_heap(block));
 }
 
 fn say_item_call(section: &[u8], call: &[u8], item: u32) {
@@ -83,7 +66,7 @@ fn say_item_call(section: &[u8], call: &[u8], item: u32) {
 
 fn test_line(section: &[u8], block: &[u8], item: u32) {
     say_item_call(section, b" test_item ", item);
-    say_verdict(heap::test_item(block, item));
+    answers::say_verdict(heap::test_item(block, item));
 }
 
 // The three calls on an item of 3.8.

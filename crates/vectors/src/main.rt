@@ -1,6 +1,9 @@
 // Runs the worked examples of 003, and others of its formats, from the files of data/. Each line says
 // the section, the call and the answer; where the file lists the answer too, whether it is that one.
+mod answers;
 mod heaps;
+mod mini;
+mod pages;
 mod text;
 
 use libc::STDOUT_FILENO;
@@ -33,6 +36,7 @@ fn header_checksums() {
     let n = text::load(b"3.2_header.hex", &mut letters);
     let mut header = [0u8; 564];
     let size = text::unhex(&letters[..n], &mut header);
+    pages::header_line(b"3.2", &header[..size]);
     header_checksum(&header[..size], 471, 4);
     header_checksum(&header[..size], 516, 524);
 }
@@ -151,7 +155,9 @@ fn coding_vectors() {
 
 fn main() {
     header_checksums();
+    pages::worked_pages();
     coding_vectors();
     heaps::store_heap();
     heaps::table_heap();
+    mini::real_pages();
 }
