@@ -169,13 +169,8 @@ static int load(const char *name)
     return n == IMAGE;
 }
 
-int main(int count, char **words)
+static void call_trees(void)
 {
-    if (count != 2 || !load(words[1])) {
-        fprintf(stderr, "usage: calls samples/mini.img\n");
-        return 2;
-    }
-    make_block();
     call_header();
     verdict("rkw_check_nodes", rkw_check_nodes(image, IMAGE));
     verdict("rkw_check_blocks", rkw_check_blocks(image, IMAGE));
@@ -185,6 +180,10 @@ int main(int count, char **words)
     call_find_block(0x40);
     call_find_block(3);
     call_find_block(0x74);
+}
+
+static void call_blocks(void)
+{
     call_test_block(image);
     call_test_block(filled);
     call_read_block(sizeof out);
@@ -196,6 +195,10 @@ int main(int count, char **words)
     call_read_node(0x60E, sizeof out);
     call_coding(2);
     call_coding(3);
+}
+
+static void call_heap(void)
+{
     verdict("rkw_test_heap", rkw_test_heap(heap, SIZE));
     verdict("rkw_test_heap", rkw_test_heap(heap, 0));
     verdict("rkw_test_item", rkw_test_item(heap, SIZE, ITEM));
@@ -205,6 +208,18 @@ int main(int count, char **words)
     call_find_property(0x0E38);
     call_find_property(0x3001);
     call_find_property(0x3002);
+}
+
+int main(int count, char **words)
+{
+    if (count != 2 || !load(words[1])) {
+        fprintf(stderr, "usage: calls samples/mini.img\n");
+        return 2;
+    }
+    make_block();
+    call_trees();
+    call_blocks();
+    call_heap();
     printf("rkw_checksum: %" PRIu64 "\n", rkw_checksum((const uint8_t *)"\x80", 1));
     printf("rkw_signature: %" PRIu64 "\n", rkw_signature(0x908A00, 0x1518));
     printf("rkw_room: %" PRIu64 "\n", rkw_room(4092));
