@@ -1,3 +1,4 @@
 pub mod Injective
 pub mod OneOutcome
 pub mod Marked
+pub mod Untouched

@@ -1,0 +1,79 @@
+-- Document 01, "Refusal numbers": a refusal "leaves every output buffer untouched". Assumes nothing.
+use Prim.Native.Nat.{ℕ, _<_}
+use mathlib.Core.Path.{_≡_, refl}
+use mathlib.Core.Bool.{Bool, true, false, cond}
+use mathlib.Core.List.{List}
+use native.Mathlib.Omega.{arith}
+use lib.Dec.{leb}
+use lib.ListN.{length}
+use borrow.Author.Tests.{leb-false}
+use Rattle.refusal.specs.declared.Fault.the-variants.{Encoding, ShortBuffer}
+use Rattle.refusal.specs.Order.{_at_, _needing_, demand}
+use Rattle.coding.specs.Coding.{methodFits, coded}
+use Rattle.coding.specs.Table.{R, I}
+use Rattle.coding.proofs.CodingLaws.{coded-none}
+use Rattle.block.specs.declared.Checked.{Checked}
+use Rattle.block.specs.declared.Checked.the-variants as checked
+use Rattle.block.specs.declared.Sized.the-variants as sized
+use Rattle.block.specs.Block.{checkedBlock, blockBytes, fronted, fitting, readIn, readOf, filledIn, filledOf}
+use Rattle.node.specs.Content.{Content, nodeContent, answerTo, filledBy}
+use Rattle.node.specs.Content as content
+use Rattle.node.specs.declared.NodeRead.the-variants as read
+use Rattle.pst.specs.Meaning.{Meaning, answered, absent, refused, refusalMeans, verdictMeans, sizedMeans, dataMeans}
+use Rattle.pst.specs.Outcomes.{readOutcome, readBuffer, dataOutcome, dataBuffer, codeOutcome, encodeBuffer, decodeBuffer}
+
+pub refuses : Meaning → Bool
+refuses (answered values) = false
+refuses (absent values) = false
+refuses (refused n place more) = true
+
+no-refusal : false ≡ true → ⊥
+no-refusal e = let clash : _≡_ {A = ℕ} 0 1 = cc in omega arith
+
+checked-untouched : (image : List ℕ) (c : Checked) (out : List ℕ) → refuses (sizedMeans (readIn c (length out))) ≡ true → filledIn image c out ≡ out
+unfolding refuses sizedMeans readIn fitting filledIn
+checked-untouched image (checked.Block b) out e = by-length (leb (b .size) (length out)) e
+  where
+    by-length : (w : Bool) → refuses (sizedMeans (cond w (sized.Size (b .size)) (sized.Refused (ShortBuffer needing b .size)))) ≡ true
+        → cond w (fronted (blockBytes image b) out) out ≡ out
+    by-length true h = absurd (no-refusal h)
+    by-length false h = refl
+checked-untouched image (checked.Refused r) out e = refl
+
+pub read-untouched : (image : List ℕ) (block : ℕ) (out : List ℕ) → refuses (readOutcome image block out) ≡ true → readBuffer image block out ≡ out
+unfolding readOutcome readBuffer readOf filledOf
+read-untouched image block out e = checked-untouched image (checkedBlock image block) out e
+
+content-untouched : (c : Content) (out : List ℕ) → refuses (dataMeans (answerTo c (length out))) ≡ true → filledBy c out ≡ out
+unfolding refuses dataMeans answerTo filledBy
+content-untouched (content.bytes s) out e = by-length (leb (length s) (length out)) e
+  where
+    by-length : (w : Bool) → refuses (dataMeans (cond w (read.Length (length s)) (read.Refused (ShortBuffer needing length s)))) ≡ true → cond w (fronted s out) out ≡ out
+    by-length true h = absurd (no-refusal h)
+    by-length false h = refl
+content-untouched content.absent out e = refl
+content-untouched (content.refused r) out e = refl
+
+pub data-untouched : (image : List ℕ) (node : ℕ) (out : List ℕ) → refuses (dataOutcome image node out) ≡ true → dataBuffer image node out ≡ out
+unfolding dataOutcome dataBuffer
+data-untouched image node out e = content-untouched (nodeContent image node) out e
+
+over-two : (method : ℕ) → refuses (codeOutcome method) ≡ true → 2 < method
+unfolding refuses codeOutcome verdictMeans methodFits demand
+over-two method = by-test (leb method 2) refl
+  where
+    by-test : (w : Bool) → leb method 2 ≡ w → refuses (verdictMeans (demand w (Encoding at 0))) ≡ true → 2 < method
+    by-test true q e = absurd (no-refusal e)
+    by-test false q e = leb-false method 2 q
+
+coded-untouched : (f : ℕ → ℕ) (method block : ℕ) (bytes : List ℕ) → refuses (codeOutcome method) ≡ true → coded f method block bytes ≡ bytes
+coded-untouched f method block bytes e =
+    let over = over-two method e in coded-none f method block bytes (λ (d : method ≡ 1). omega arith) (λ (d : method ≡ 2). omega arith)
+
+pub encode-untouched : (method block : ℕ) (bytes : List ℕ) → refuses (codeOutcome method) ≡ true → encodeBuffer method block bytes ≡ bytes
+unfolding encodeBuffer
+encode-untouched method block bytes e = coded-untouched R method block bytes e
+
+pub decode-untouched : (method block : ℕ) (bytes : List ℕ) → refuses (codeOutcome method) ≡ true → decodeBuffer method block bytes ≡ bytes
+unfolding decodeBuffer
+decode-untouched method block bytes e = coded-untouched I method block bytes e
