@@ -2,3 +2,4 @@ pub mod Injective
 pub mod OneOutcome
 pub mod Marked
 pub mod Untouched
+pub mod AsScanned

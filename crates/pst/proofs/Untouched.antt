@@ -19,13 +19,8 @@ use Rattle.block.specs.Block.{checkedBlock, blockBytes, fronted, fitting, readI
 use Rattle.node.specs.Content.{Content, nodeContent, answerTo, filledBy}
 use Rattle.node.specs.Content as content
 use Rattle.node.specs.declared.NodeRead.the-variants as read
-use Rattle.pst.specs.Meaning.{Meaning, answered, absent, refused, refusalMeans, verdictMeans, sizedMeans, dataMeans}
+use Rattle.pst.specs.Meaning.{refuses, verdictMeans, sizedMeans, dataMeans}
 use Rattle.pst.specs.Outcomes.{readOutcome, readBuffer, dataOutcome, dataBuffer, codeOutcome, encodeBuffer, decodeBuffer}
-
-pub refuses : Meaning → Bool
-refuses (answered values) = false
-refuses (absent values) = false
-refuses (refused n place more) = true
 
 no-refusal : false ≡ true → ⊥
 no-refusal e = let clash : _≡_ {A = ℕ} 0 1 = cc in omega arith

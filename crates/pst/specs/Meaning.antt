@@ -1,5 +1,6 @@
 -- Document 01: "When an answer is an enum, a definition specifies this paper's number and values for each of its cases." Assumes nothing: these are definitions.
 use Prim.Native.Nat.{ℕ}
+use mathlib.Core.Bool.{Bool, true, false}
 use mathlib.Core.List.{List, [], _∷_}
 use Rattle.refusal.specs.declared.Refusal.{Refusal}
 use Rattle.refusal.specs.declared.Verdict.{Verdict}
@@ -28,6 +29,12 @@ pub data Meaning : Type 0 where
   absent : List ℕ → Meaning
   -- the refusal's number, its place, and what more it returns
   refused : ℕ → ℕ → ℕ → Meaning
+
+-- whether it says a refusal
+unfoldable pub refuses : Meaning → Bool
+refuses (answered values) = false
+refuses (absent values) = false
+refuses (refused n place more) = true
 
 unfoldable pub refusalMeans : Refusal → Meaning
 refusalMeans r = refused (number (r .fault)) (r .place) (r .more)
