@@ -2,14 +2,14 @@
 use mathlib.Core.Path.{_≡_, refl, sym, ap, ap₂, _∙_}
 use mathlib.Core.Bool.{Bool, true, false, cond}
 use mathlib.Core.List.{List, [], _∷_, map}
-use Prim.Native.Nat.{ℕ, zero, suc, _+_, _-_, _<_, _≤_, _%_, _/_, suc-le-suc}
-use native.Mathlib.Nat.{zero-lt-suc}
+use Prim.Native.Nat.{ℕ, zero, suc, _+_, _-_, _<_, _≤_, _%_, _/_}
 use native.Mathlib.Omega.{arith}
 use lib.Bits.{xor-lt}
 use lib.Dec.{eqb}
 use lib.ListN.{getD, length}
 use Rattle.laws.proofs.Table.{agree}
 use Rattle.le.specs.Bytes.{Bytes}
+use Rattle.le.proofs.ByteLaws.{first-below, rest-bytes}
 use Rattle.coding.specs.Table.{table, entry, R, S, I}
 use Rattle.coding.specs.Coding.{plus, minus, cyclicByte, cyclic, word, coded, encoded, decoded}
 
@@ -38,15 +38,9 @@ pub entry-below : (from b : ℕ) → from ≤ 512 → b < 256 → entry from b <
 unfolding entry
 entry-below from b h k = omega (arith, entry-byte (from + b) (omega arith))
 
-first : {b : ℕ} {s : List ℕ} → Bytes (b ∷ s) → b < 256
-first h = h .below 0 (zero-lt-suc _)
-
-rest : {b : ℕ} {s : List ℕ} → Bytes (b ∷ s) → Bytes s
-rest h = record { below = λ i k. h .below (suc i) (suc-le-suc k) }
-
 map-undone : (f g : ℕ → ℕ) → Undoes g f → (s : List ℕ) → Bytes s → map g (map f s) ≡ s
 map-undone f g u [] h = refl
-map-undone f g u (b ∷ s) h = ap₂ _∷_ (u b (first h)) (map-undone f g u s (rest h))
+map-undone f g u (b ∷ s) h = ap₂ _∷_ (u b (first-below h)) (map-undone f g u s (rest-bytes h))
 
 -- a byte added and subtracted again, in either order
 plus-minus : (x k : ℕ) → x < 256 → k < 256 → plus (minus x k) k ≡ x
@@ -78,7 +72,7 @@ byte-twice w b hw hb =
 pub cyclic-twice : (w : ℕ) (s : List ℕ) → w < 65536 → Bytes s → cyclic w (cyclic w s) ≡ s
 unfolding cyclic
 cyclic-twice w [] hw h = refl
-cyclic-twice w (b ∷ s) hw h = ap₂ _∷_ (byte-twice w b hw (first h)) (cyclic-twice ((w + 1) % 65536) s (omega arith) (rest h))
+cyclic-twice w (b ∷ s) hw h = ap₂ _∷_ (byte-twice w b hw (first-below h)) (cyclic-twice ((w + 1) % 65536) s (omega arith) (rest-bytes h))
 
 word-below : (block : ℕ) → word block < 65536
 unfolding word
