@@ -131,16 +131,16 @@ module _ (image : List ℕ) (number : ℕ) where
   unfolding checkedBlock testedBy
   lookup-refused r f = sym (ap (testedBy (blockFits trailer64 image)) f)
 
+unblock : (d b : Listed) → checked.Block d ≡ checked.Block b → d ≡ b
+unblock d b p = cc
+
 -- what a checked block tells
 checked-by : (image : List ℕ) (f : FoundBlock) (b : Listed) → testedBy (blockFits trailer64 image) f ≡ checked.Block b → blockFits trailer64 image b ≡ Accepted
 unfolding testedBy
 checked-by image (block.Found d n) b e = by (blockFits trailer64 image d) refl
   where
     by : (v : Verdict) → blockFits trailer64 image d ≡ v → blockFits trailer64 image b ≡ Accepted
-    by Accepted q = let same : d ≡ b = unblock (sym (goes checked.Refused _ _ q) ∙ e) in sym (ap (blockFits trailer64 image) same) ∙ q
-      where
-        unblock : checked.Block d ≡ checked.Block b → d ≡ b
-        unblock p = cc
+    by Accepted q = let same : d ≡ b = unblock d b (sym (goes checked.Refused _ _ q) ∙ e) in sym (ap (blockFits trailer64 image) same) ∙ q
     by (Refused r) q = let other = ends checked.Refused _ (checked.Block d) r q in cc
 checked-by image (block.Absent n) b e = cc
 checked-by image (block.Refused r) b e = cc
@@ -155,10 +155,7 @@ unfolding testedBy
 same-by image f b d n e g = by (blockFits trailer64 image d) refl
   where
     by : (v : Verdict) → blockFits trailer64 image d ≡ v → d ≡ b
-    by Accepted q = unblock (sym (ap (testedBy (blockFits trailer64 image)) g ∙ goes checked.Refused _ _ q) ∙ e)
-      where
-        unblock : checked.Block d ≡ checked.Block b → d ≡ b
-        unblock p = cc
+    by Accepted q = unblock d b (sym (ap (testedBy (blockFits trailer64 image)) g ∙ goes checked.Refused _ _ q) ∙ e)
     by (Refused r) q = let other = ap (testedBy (blockFits trailer64 image)) g ∙ ends checked.Refused _ (checked.Block d) r q in cc
 
 pub checked-same : (image : List ℕ) (number : ℕ) (b d : Listed) (n : ℕ) → checkedBlock image number ≡ checked.Block b → blockOf image number ≡ block.Found d n → d ≡ b
