@@ -2,7 +2,7 @@
 use Prim.Native.Nat.{ℕ, zero, suc, _+_, _*_, _-_, _≤_, _<_}
 use mathlib.Core.Path.{_≡_, refl, sym, ap, _∙_}
 use mathlib.Core.List.{List, [], _∷_, map}
-use native.Mathlib.Nat.{add-zero, sub-zero, zero-mul, suc-mul, mul-le-mul-right}
+use native.Mathlib.Nat.{add-zero, zero-add, sub-zero, zero-mul, suc-mul, mul-le-mul-right}
 use native.Mathlib.Numerals.{add-one}
 use native.Mathlib.Omega.{arith}
 use lib.ListN.{length, take, drop}
@@ -34,6 +34,16 @@ module _ (shape : Shape) (n : ℕ) (bytes : List ℕ) where
   pub records-none : (i : ℕ) → n ≤ i → recordsFrom shape n bytes i ≡ []
   unfolding recordsFrom records cut
   records-none i h = let p : n - i ≡ 0 = omega arith in rw p
+
+  -- those from the i-th on, without the first j
+  drop-from : (j i : ℕ) → i + j ≤ n → drop j (recordsFrom shape n bytes i) ≡ recordsFrom shape n bytes (i + j)
+  drop-from zero i h = ap (recordsFrom shape n bytes) (sym (add-zero i))
+  drop-from (suc j) i h =
+      let q : i + 1 + j ≡ i + suc j = omega arith in
+      ap (drop (suc j)) (records-at i (omega arith)) ∙ drop-from j (i + 1) (omega arith) ∙ ap (recordsFrom shape n bytes) q
+
+  pub records-drop : (i : ℕ) → i ≤ n → drop i (records shape n bytes) ≡ recordsFrom shape n bytes i
+  records-drop i h = ap (drop i) (sym records-all) ∙ drop-from i 0 (omega arith) ∙ ap (recordsFrom shape n bytes) (zero-add i)
 
   pub keys-all : keysFrom shape n bytes 0 ≡ keysOf shape n bytes
   unfolding keysFrom keysOf

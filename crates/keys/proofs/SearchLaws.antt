@@ -7,11 +7,15 @@ use mathlib.Core.List.{List, [], _∷_, _++_}
 use native.Mathlib.Nat.{le-refl, le-of-lt}
 use native.Mathlib.Omega.{arith}
 use lib.Dec.{leb, eqb}
-use borrow.Author.Tests.{leb-true, leb-false, lt-leb, ne-eqb}
+use borrow.Author.Tests.{leb-true, leb-false, le-leb, lt-leb, ne-eqb}
 use Rattle.keys.specs.declared.End.{End}
 use Rattle.keys.specs.declared.End.the-variants.{Before}
+use Rattle.keys.specs.declared.Seat.{Seat}
+use Rattle.keys.specs.declared.Seat.the-variants.{At, Nowhere}
+use Rattle.keys.specs.declared.Sought.{Sought}
+use Rattle.keys.specs.declared.Sought.the-variants.{Equal, AtLeast}
 pub use Rattle.keys.specs.Plain.{All}
-use Rattle.keys.specs.Search.{withKey, orLater, choice, joined}
+use Rattle.keys.specs.Search.{onward, orFirst, lastAtMost, meets, scanned, withKey, fromKey, orLater, choice, start, startingAt, joined}
 use Rattle.keys.proofs.Climbs.{Under, under-less, Climbs, done, step, climbs-lower, climbs-append, climbs-nil}
 
 pub all-map : {A : Type 0} {P Q : A → Type 0} → ((x : A) → P x → Q x) → (xs : List A) → All P xs → All Q xs
@@ -31,34 +35,56 @@ pub first-under : {C : Type 0} {low : C → ℕ} {high : C → End} {to : End} {
 first-under (last f u e) = u
 first-under {to = to} (more f l e t) = under-less to _ _ (le-of-lt l) (first-under t)
 
+-- a key below the one sought is not sought
+below-misses : (s : Sought) (k key : ℕ) → key < k → meets s k key ≡ false
+unfolding meets
+below-misses Equal k key h = ne-eqb key k (λ e. omega arith)
+below-misses AtLeast k key h = lt-leb k key h
+
 module _ {A : Type 0} (key : A → ℕ) (k : ℕ) where
-  -- nothing is found on the right: the left decides
-  left-only : (xs ys : List A) → withKey key k ys ≡ none → withKey key k (xs ++ ys) ≡ withKey key k xs
-  unfolding withKey
-  left-only [] ys h = h
-  left-only (x ∷ xs) ys h = ap (cond (eqb (key x) k) (some x)) (left-only xs ys h)
+  module _ (s : Sought) where
+    -- nothing is found on the right: the left decides
+    left-only : (xs ys : List A) → scanned s key k ys ≡ none → scanned s key k (xs ++ ys) ≡ scanned s key k xs
+    unfolding scanned
+    left-only [] ys h = h
+    left-only (x ∷ xs) ys h = ap (cond (meets s k (key x)) (some x)) (left-only xs ys h)
 
-  skip : (b : Bool) (x : A) (r s t : Option A) → (r ≡ none → s ≡ t) → cond b (some x) r ≡ none → cond b (some x) s ≡ t
-  skip true x r s t f h = cc
-  skip false x r s t f h = f h
+    skip : (b : Bool) (x : A) (r t u : Option A) → (r ≡ none → t ≡ u) → cond b (some x) r ≡ none → cond b (some x) t ≡ u
+    skip true x r t u f h = cc
+    skip false x r t u f h = f h
 
-  -- nothing is found on the left: the right decides
-  right-only : (xs ys : List A) → withKey key k xs ≡ none → withKey key k (xs ++ ys) ≡ withKey key k ys
-  unfolding withKey
-  right-only [] ys h = refl
-  right-only (x ∷ xs) ys h = skip (eqb (key x) k) x (withKey key k xs) (withKey key k (xs ++ ys)) (withKey key k ys) (right-only xs ys) h
+    -- nothing is found on the left: the right decides
+    pub right-only : (xs ys : List A) → scanned s key k xs ≡ none → scanned s key k (xs ++ ys) ≡ scanned s key k ys
+    unfolding scanned
+    right-only [] ys h = refl
+    right-only (x ∷ xs) ys h = skip (meets s k (key x)) x (scanned s key k xs) (scanned s key k (xs ++ ys)) (scanned s key k ys) (right-only xs ys) h
+
+    same : (b : Bool) (x e : A) (r t : Option A) → (r ≡ some e → t ≡ some e) → cond b (some x) r ≡ some e → cond b (some x) t ≡ some e
+    same true x e r t f h = h
+    same false x e r t f h = f h
+
+    -- something is found on the left: the left decides
+    pub left-has : (xs ys : List A) (e : A) → scanned s key k xs ≡ some e → scanned s key k (xs ++ ys) ≡ some e
+    unfolding scanned
+    left-has [] ys e h = let clash : _≡_ {A = ℕ} 0 1 = cc in absurd (omega arith)
+    left-has (x ∷ xs) ys e h = same (meets s k (key x)) x e (scanned s key k xs) (scanned s key k (xs ++ ys)) (left-has xs ys e) h
+
+    -- what is sought is not in a range that ends before it
+    pub too-high : {from mid : ℕ} {xs : List A} → mid ≤ k → Climbs key (Before mid) from xs → scanned s key k xs ≡ none
+    unfolding scanned
+    too-high h done = refl
+    too-high h (step {x} f u c) = rw (below-misses s k (key x) (omega arith)) (too-high h c)
 
   -- a key below a range is not in it
   too-low : {from : ℕ} {to : End} {xs : List A} → k < from → Climbs key to from xs → withKey key k xs ≡ none
-  unfolding withKey
+  unfolding scanned meets
   too-low h done = refl
   too-low h (step {x} f u c) = rw (ne-eqb (key x) k (λ e. omega arith)) (too-low (omega arith) c)
 
-  -- nor is a key behind it
-  too-high : {from mid : ℕ} {xs : List A} → mid ≤ k → Climbs key (Before mid) from xs → withKey key k xs ≡ none
-  unfolding withKey
-  too-high h done = refl
-  too-high h (step {x} f u c) = rw (ne-eqb (key x) k (λ e. omega arith)) (too-high h c)
+  -- in a range that begins at the key sought or above it, the first thing is the first from that key on
+  pub first-from : {from : ℕ} {to : End} {x : A} {xs : List A} → k ≤ from → Climbs key to from (x ∷ xs) → fromKey key k (x ∷ xs) ≡ some x
+  unfolding scanned meets
+  first-from {x} h (step f u c) = rw (le-leb k (key x) (omega arith))
 
 -- what holds of each child holds of the chosen one
 module _ {C : Type 0} (P : C → Type 0) (low : C → ℕ) (k : ℕ) where
@@ -97,14 +123,14 @@ module _ {C A : Type 0} (low : C → ℕ) (high : C → End) (key : A → ℕ) (
         inChosen key k list o ≡ withKey key k ys →
         inChosen key k list (orLater (cond b (some c) none) o) ≡ withKey key k (list c ++ ys)
     unfolding inChosen orLater
-    before c ys b (some d) low-one high-one e = e ∙ sym (right-only key k (list c) ys (high-one d refl))
-    before c ys true none low-one high-one e = sym (left-only key k (list c) ys (sym e))
-    before c ys false none low-one high-one e = e ∙ sym (right-only key k (list c) ys (low-one refl))
+    before c ys b (some d) low-one high-one e = e ∙ sym (right-only key k Equal (list c) ys (high-one d refl))
+    before c ys true none low-one high-one e = sym (left-only key k Equal (list c) ys (sym e))
+    before c ys false none low-one high-one e = e ∙ sym (right-only key k Equal (list c) ys (low-one refl))
 
     -- the chosen child's list has the thing that all the lists together have
     pub in-chosen : {to : End} {from : ℕ} {cs : List C} → Tiled low high to from cs → All Filed cs →
         inChosen key k list (choice low k cs) ≡ withKey key k (joined list cs)
-    unfolding choice joined inChosen withKey
+    unfolding choice joined inChosen scanned meets
     in-chosen childless a = refl
     in-chosen (last {c} f u e) a =
         before c [] (leb (low c) k) none (λ b. too-low key k (leb-false (low c) k b) (a .0)) (λ q z. cc) refl
@@ -113,7 +139,7 @@ module _ {C A : Type 0} (low : C → ℕ) (high : C → End) (key : A → ℕ) (
         (λ q z. by (leb (low d) k) refl q z) (in-chosen t (a .1))
       where
         by : (b : Bool) → leb (low d) k ≡ b → (q : C) → choice low k (d ∷ cs) ≡ some q → withKey key k (list c) ≡ none
-        by true b q z = too-high key k (leb-true (low d) k b) (subst (λ (w : End). Climbs key w (low c) (list c)) e (a .0))
+        by true b q z = too-high key k Equal (leb-true (low d) k b) (subst (λ (w : End). Climbs key w (low c) (list c)) e (a .0))
         by false b q z = let w = none-chosen k (leb-false (low d) k b) t in cc
 
   -- lists that climb in the ranges of tiled children climb, one behind the other, in the range of the parent

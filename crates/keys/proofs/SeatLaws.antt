@@ -1,20 +1,21 @@
 -- The seat that is chosen, and the seat that is found, one key at a time; and what sits there. Assumes nothing.
-use Prim.Native.Nat.{ℕ, zero, suc, _+_, _-_, _≤_, _<_, suc-le-suc}
+use Prim.Native.Nat.{ℕ, zero, suc, _+_, _-_, _≤_, _<_, zero-le, suc-le-suc}
 use mathlib.Core.Path.{_≡_, refl, sym, ap, _∙_}
 use mathlib.Core.Bool.{Bool, true, false, cond}
 use mathlib.Core.Option.{Option, none, some}
 use mathlib.Core.List.{List, [], _∷_, map}
-use native.Mathlib.Nat.{add-zero, add-suc, suc-add, zero-add, zero-lt-suc}
+use native.Mathlib.Nat.{add-zero, add-suc, suc-add, zero-add, zero-lt-suc, le-of-lt}
 use native.Mathlib.Numerals.{add-one}
 use native.Mathlib.Omega.{arith}
-use lib.Dec.{leb, eqb}
+use lib.Dec.{leb}
 use lib.ListN.{length}
-use borrow.Author.Tests.{le-leb, lt-leb, eq-eqb, ne-eqb}
+use borrow.Author.Tests.{le-leb, lt-leb}
 use Rattle.keys.specs.declared.Shape.{Shape}
 use Rattle.keys.specs.declared.Seat.{Seat}
 use Rattle.keys.specs.declared.Seat.the-variants.{At, Nowhere}
+use Rattle.keys.specs.declared.Sought.{Sought}
 use Rattle.keys.specs.Records.{records, recordAt, keyAt, keysOf}
-use Rattle.keys.specs.Search.{onward, orFirst, lastAtMost, firstEqual, seated, withKey, orLater, choice}
+use Rattle.keys.specs.Search.{onward, orFirst, lastAtMost, meets, firstThat, seated, scanned, orLater, choice, start}
 use Rattle.keys.proofs.RecordLaws.{recordsFrom, records-all, records-at, keysFrom, keys-all, keys-at, keys-none}
 
 -- the seat i further on
@@ -37,20 +38,21 @@ module _ (shape : Shape) (n : ℕ) (bytes : List ℕ) (k : ℕ) where
   from i = keysFrom shape n bytes i
 
   -- the search from the left
-  pub equal-starts : firstEqual k (keysOf shape n bytes) ≡ further 0 (firstEqual k (from 0))
-  equal-starts = ap (firstEqual k) (sym (keys-all shape n bytes)) ∙ sym (further-none (firstEqual k (from 0)))
+  module _ (s : Sought) where
+    pub first-starts : firstThat s k (keysOf shape n bytes) ≡ further 0 (firstThat s k (from 0))
+    first-starts = ap (firstThat s k) (sym (keys-all shape n bytes)) ∙ sym (further-none (firstThat s k (from 0)))
 
-  pub equal-here : (i : ℕ) → i < n → keyAt shape bytes i ≡ k → further i (firstEqual k (from i)) ≡ At i
-  unfolding firstEqual further
-  equal-here i h e = rw (keys-at shape n bytes i h, eq-eqb (keyAt shape bytes i) k e) (ap At (add-zero i))
+    pub first-here : (i : ℕ) → i < n → meets s k (keyAt shape bytes i) ≡ true → further i (firstThat s k (from i)) ≡ At i
+    unfolding firstThat further
+    first-here i h e = rw (keys-at shape n bytes i h, e) (ap At (add-zero i))
 
-  pub equal-on : (i : ℕ) → i < n → (keyAt shape bytes i ≡ k → ⊥) → further i (firstEqual k (from i)) ≡ further (i + 1) (firstEqual k (from (i + 1)))
-  unfolding firstEqual
-  equal-on i h e = rw (keys-at shape n bytes i h, ne-eqb (keyAt shape bytes i) k e) (further-onward i (firstEqual k (from (i + 1))))
+    pub first-on : (i : ℕ) → i < n → meets s k (keyAt shape bytes i) ≡ false → further i (firstThat s k (from i)) ≡ further (i + 1) (firstThat s k (from (i + 1)))
+    unfolding firstThat
+    first-on i h e = rw (keys-at shape n bytes i h, e) (further-onward i (firstThat s k (from (i + 1))))
 
-  pub equal-ends : (i : ℕ) → n ≤ i → further i (firstEqual k (from i)) ≡ Nowhere
-  unfolding firstEqual further
-  equal-ends i h = rw (keys-none shape n bytes i h)
+    pub first-ends : (i : ℕ) → n ≤ i → further i (firstThat s k (from i)) ≡ Nowhere
+    unfolding firstThat further
+    first-ends i h = rw (keys-none shape n bytes i h)
 
   -- the choice from the right
   pub most-starts : lastAtMost k (from n) ≡ Nowhere
@@ -118,17 +120,25 @@ module _ {A : Type 0} (key : A → ℕ) (k : ℕ) where
   choice-sits [] = nobody
   choice-sits (c ∷ cs) = sits-later c cs (leb (key c) k) (choice-sits cs)
 
-  -- what has the key sits in the seat that is found
-  pub found-sits : (cs : List A) → Sits cs (firstEqual k (map key cs)) (withKey key k cs)
-  unfolding firstEqual withKey
-  found-sits [] = nobody
-  found-sits (c ∷ cs) = sits-onward c cs (eqb (key c) k) (found-sits cs)
+  -- what is found sits in the seat that is found
+  pub found-sits : (s : Sought) (cs : List A) → Sits cs (firstThat s k (map key cs)) (scanned s key k cs)
+  unfolding firstThat scanned
+  found-sits s [] = nobody
+  found-sits s (c ∷ cs) = sits-onward c cs (meets s k (key c)) (found-sits s cs)
 
   pub chosen-below : (cs : List A) (i : ℕ) → lastAtMost k (map key cs) ≡ At i → i < length cs
   chosen-below cs i e = below-at i (choice-sits cs) e
 
-  pub found-below : (cs : List A) (i : ℕ) → firstEqual k (map key cs) ≡ At i → i < length cs
-  found-below cs i e = below-at i (found-sits cs) e
+  pub found-below : (s : Sought) (cs : List A) (i : ℕ) → firstThat s k (map key cs) ≡ At i → i < length cs
+  found-below s cs i e = below-at i (found-sits s cs) e
+
+  pub start-below : (cs : List A) → start (lastAtMost k (map key cs)) ≤ length cs
+  unfolding start
+  start-below cs = by (lastAtMost k (map key cs)) refl
+    where
+      by : (s : Seat) → lastAtMost k (map key cs) ≡ s → start s ≤ length cs
+      by (At i) e = le-of-lt (chosen-below cs i e)
+      by Nowhere e = zero-le
 
 -- the record that sits in the i-th seat of those from the j-th on
 pub seated-from : (shape : Shape) (n : ℕ) (bytes : List ℕ) (i j : ℕ) → j + i < n

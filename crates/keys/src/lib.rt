@@ -5,7 +5,7 @@ ghost use Prim.Native.Nat.{_+_, _*_, _≤_, _<_};
 ghost use lib.ListN.{length};
 ghost use Rattle.keys.specs.Records.{keysOf, keyAt, Holds};
 ghost use Rattle.keys.specs.Range.{isBefore, inRange, ordered};
-ghost use Rattle.keys.specs.Search.{lastAtMost, firstEqual};
+ghost use Rattle.keys.specs.Search.{lastAtMost, meets, firstThat, start};
 
 // Where a range of keys ends.
 pub enum End {
@@ -38,13 +38,22 @@ pub enum Seat {
     Nowhere,
 }
 
+// Which keys a search is for: the key itself, or any from it on.
+pub enum Sought {
+    Equal,
+    AtLeast,
+}
+
 pub fn is_before(to: End, key: u64) -> bool
     ensures { λ r. ⌜ r ≡ isBefore to key ⌝ }
 {
-    match to {
-        End::Open => true,
-        End::Before(end) => key < end,
+    let End::Before(end) = to else {
+        return true;
+    };
+    if end <= key {
+        return false;
     }
+    true
 }
 
 pub fn in_range(range: Range, key: u64) -> bool
@@ -106,17 +115,41 @@ pub fn last_at_most(bytes: &[u8], shape: Shape, count: usize, key: u64) -> Seat
     }
 }
 
-// The first of so many records whose key is the key sought.
-pub fn first_equal(bytes: &[u8], shape: Shape, count: usize, key: u64) -> Seat
+// The index of the record with which a listing starts.
+pub fn start_of(bytes: &[u8], shape: Shape, count: usize, key: u64) -> usize
     requires { ⌜ Holds shape count (now bytes) ⌝ }
-    ensures { λ r. ⌜ r ≡ firstEqual key (keysOf shape count (now (bytes .entry))) ⌝ }
+    ensures { λ r. ⌜ r ≡ start (lastAtMost key (keysOf shape count (now (bytes .entry)))) ⌝ }
+{
+    match last_at_most(bytes, shape, count, key) {
+        Seat::At(i) => i,
+        Seat::Nowhere => 0,
+    }
+}
+
+// Whether a key found is sought.
+pub fn meets(sought: Sought, found: u64, key: u64) -> bool
+    ensures { λ r. ⌜ r ≡ meets sought key found ⌝ }
+{
+    if let Sought::Equal = sought {
+        return found == key;
+    }
+    if found < key {
+        return false;
+    }
+    true
+}
+
+// The first of so many records whose key is sought.
+pub fn first_that(bytes: &[u8], shape: Shape, count: usize, sought: Sought, key: u64) -> Seat
+    requires { ⌜ Holds shape count (now bytes) ⌝ }
+    ensures { λ r. ⌜ r ≡ firstThat sought key (keysOf shape count (now (bytes .entry))) ⌝ }
 {
     let mut i = 0;
     loop {
         if i == count {
             break Seat::Nowhere;
         }
-        if key_at(bytes, shape, i) == key {
+        if meets(sought, key_at(bytes, shape, i), key) {
             break Seat::At(i);
         }
         i += 1;

@@ -12,8 +12,9 @@ use Rattle.keys.specs.declared.End.the-variants.{Before}
 use Rattle.keys.specs.declared.Shape.{Shape}
 use Rattle.keys.specs.declared.Seat.{Seat}
 use Rattle.keys.specs.declared.Seat.the-variants.{At, Nowhere}
+use Rattle.keys.specs.declared.Sought.the-variants.{Equal}
 use Rattle.keys.specs.Records.{keyOf, keysOf, recordAt, keyAt, Holds}
-use Rattle.keys.specs.Search.{lastAtMost, firstEqual, seated, withKey, choice}
+use Rattle.keys.specs.Search.{lastAtMost, firstThat, seated, withKey, choice}
 use Rattle.keys.proofs.RecordLaws.{recordsFrom, records-all, records-at, records-none, field-at}
 use Rattle.keys.proofs.FoundLaws.{seated-nowhere, seated-first, seated-next, keys-are, found-inside, record-found, record-absent, chosen-inside}
 use Rattle.keys.proofs.SeatLaws.{sits-there, choice-sits}
@@ -29,19 +30,19 @@ records-hold shape bytes k w = record { inside = div-mul-le-self (length bytes) 
 
 -- the leaf record that is found
 module _ (bytes : List ℕ) (id : ℕ) where
-  pub leaf-inside : (i : ℕ) → At i ≡ firstEqual id (keysOf leafShape (recordCount leafShape bytes) bytes) → i * 8 + 8 ≤ length bytes
+  pub leaf-inside : (i : ℕ) → At i ≡ firstThat Equal id (keysOf leafShape (recordCount leafShape bytes) bytes) → i * 8 + 8 ≤ length bytes
   unfolding recordCount leafShape
-  leaf-inside i e = let below : i < length bytes / 8 = found-inside leafShape (length bytes / 8) bytes id i e in omega arith
+  leaf-inside i e = let below : i < length bytes / 8 = found-inside leafShape (length bytes / 8) bytes Equal id i e in omega arith
 
-  pub leaf-at : (i : ℕ) → At i ≡ firstEqual id (keysOf leafShape (recordCount leafShape bytes) bytes)
+  pub leaf-at : (i : ℕ) → At i ≡ firstThat Equal id (keysOf leafShape (recordCount leafShape bytes) bytes)
       → withKey idOf id (recordsOf leafShape bytes) ≡ some (recordAt leafShape bytes i)
   unfolding recordsOf
-  leaf-at i e = record-found leafShape (recordCount leafShape bytes) bytes id i e
+  leaf-at i e = record-found leafShape (recordCount leafShape bytes) bytes Equal id i e
 
-  pub leaf-none : Nowhere ≡ firstEqual id (keysOf leafShape (recordCount leafShape bytes) bytes)
+  pub leaf-none : Nowhere ≡ firstThat Equal id (keysOf leafShape (recordCount leafShape bytes) bytes)
       → withKey idOf id (recordsOf leafShape bytes) ≡ none
   unfolding recordsOf
-  leaf-none e = record-absent leafShape (recordCount leafShape bytes) bytes id e
+  leaf-none e = record-absent leafShape (recordCount leafShape bytes) bytes Equal id e
 
 -- what a leaf record says
 pub answer-at : (block bytes : List ℕ) (i : ℕ)

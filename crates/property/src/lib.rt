@@ -4,6 +4,7 @@ use keys::Order;
 use keys::Range;
 use keys::Seat;
 use keys::Shape;
+use keys::Sought;
 use refusal::Fault;
 use refusal::Refusal;
 use refusal::Verdict;
@@ -178,7 +179,8 @@ fn find_in_leaf(block: &[u8], id: u16, item: u32) -> Property
 {
     let records = heap::part_of(block, item);
     let shape = Shape { size: 8, width: 2 };
-    let seat = keys::first_equal(records, shape, records.len() / 8, id as u64);
+    let count = records.len() / 8;
+    let seat = keys::first_that(records, shape, count, Sought::Equal, id as u64);
     let Seat::At(i) = seat else {
         return Property::Absent;
     };

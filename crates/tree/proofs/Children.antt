@@ -13,10 +13,11 @@ use Rattle.keys.specs.declared.End.{End}
 use Rattle.keys.specs.declared.End.the-variants.{Before}
 use Rattle.keys.specs.declared.Seat.{Seat}
 use Rattle.keys.specs.declared.Seat.the-variants.{At, Nowhere}
+use Rattle.keys.specs.declared.Sought.{Sought}
 use Rattle.keys.specs.Records.{keyOf, records, keysOf, recordAt, keyAt, Holds}
-use Rattle.keys.specs.Search.{lastAtMost, firstEqual, seated, withKey, choice}
+use Rattle.keys.specs.Search.{lastAtMost, firstThat, seated, scanned, choice, start}
 use Rattle.keys.proofs.RecordLaws.{recordsFrom, records-all, records-at, records-none, records-length, record-inside, field-at}
-use Rattle.keys.proofs.SeatLaws.{sits-there, choice-sits, found-sits, chosen-below, found-below, seated-record}
+use Rattle.keys.proofs.SeatLaws.{sits-there, choice-sits, found-sits, chosen-below, found-below, seated-record, start-below}
 use Rattle.page.specs.declared.Layout.{Layout}
 use Rattle.page.specs.declared.Level.the-variants.{Exactly}
 use Rattle.page.specs.declared.Link.{Link}
@@ -114,7 +115,7 @@ module _ (L : Layout) (g : List ℕ) where
   keys-are : map (keyIn L) (entries L g) ≡ keysOf own (countOf L g) g
   keys-are = sym (keys-of-entries L g)
 
-  entries-length : length (entries L g) ≡ countOf L g
+  pub entries-length : length (entries L g) ≡ countOf L g
   unfolding entries
   entries-length = records-length own (countOf L g) g
 
@@ -141,22 +142,30 @@ module _ (L : Layout) (g : List ℕ) where
         (sym (link-seated L own (countOf L g) g l to i (chosen-inside i e))
         ∙ ap (seated kids) (sym (lows ∙ e)) ∙ sits-there (choice-sits low k kids))
 
-  -- the entry with a key
-  module _ (k : ℕ) where
-    pub found-none : firstEqual k (keysOf own (countOf L g) g) ≡ Nowhere → withKey (keyIn L) k (entries L g) ≡ none
+  -- the entry that is sought
+  module _ (s : Sought) (k : ℕ) where
+    pub found-none : firstThat s k (keysOf own (countOf L g) g) ≡ Nowhere → scanned s (keyIn L) k (entries L g) ≡ none
     unfolding seated
-    found-none e = sym (sits-there (found-sits (keyIn L) k (entries L g))) ∙ ap (seated (entries L g)) (ap (firstEqual k) keys-are ∙ e)
+    found-none e = sym (sits-there (found-sits (keyIn L) k s (entries L g))) ∙ ap (seated (entries L g)) (ap (firstThat s k) keys-are ∙ e)
 
-    pub found-inside : (i : ℕ) → firstEqual k (keysOf own (countOf L g) g) ≡ At i → i < countOf L g
+    pub found-inside : (i : ℕ) → firstThat s k (keysOf own (countOf L g) g) ≡ At i → i < countOf L g
     found-inside i e =
-        omega (arith, found-below (keyIn L) k (entries L g) i (ap (firstEqual k) keys-are ∙ e), entries-length)
+        omega (arith, found-below (keyIn L) k s (entries L g) i (ap (firstThat s k) keys-are ∙ e), entries-length)
 
-    pub found-some : (i : ℕ) → firstEqual k (keysOf own (countOf L g) g) ≡ At i → withKey (keyIn L) k (entries L g) ≡ some (recordAt own g i)
+    pub found-some : (i : ℕ) → firstThat s k (keysOf own (countOf L g) g) ≡ At i → scanned s (keyIn L) k (entries L g) ≡ some (recordAt own g i)
     unfolding entries
     found-some i e =
-        sym (sits-there (found-sits (keyIn L) k (entries L g)))
-        ∙ ap (seated (entries L g)) (ap (firstEqual k) keys-are ∙ e)
+        sym (sits-there (found-sits (keyIn L) k s (entries L g)))
+        ∙ ap (seated (entries L g)) (ap (firstThat s k) keys-are ∙ e)
         ∙ seated-record own (countOf L g) g i (found-inside i e)
+
+  -- where a listing starts
+  module _ (k : ℕ) where
+    pub start-is : (i : ℕ) → i ≡ start (lastAtMost k (keysOf own (countOf L g) g)) → i ≡ start (lastAtMost k (map (keyIn L) (entries L g)))
+    start-is i e = e ∙ ap (λ (ks : List ℕ). start (lastAtMost k ks)) (sym keys-are)
+
+    pub start-inside : start (lastAtMost k (map (keyIn L) (entries L g))) ≤ countOf L g
+    start-inside = rw entries-length at (start-below (keyIn L) k (entries L g))
 
 -- an entry of a leaf page
 module _ (L : Layout) (p : Link) (g : List ℕ) (fair : Fair L) (h : length g ≡ 512) (ok : countsFit L p g ≡ true) (leaf : levelOf L g ≡ 0) where

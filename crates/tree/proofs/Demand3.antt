@@ -13,7 +13,7 @@ use borrow.Author.Tests.{eqb-true}
 use Rattle.refusal.specs.declared.Verdict.the-variants.{Accepted}
 use Rattle.refusal.proofs.OrderLaws.{goes, then-left, then-right}
 use Rattle.keys.specs.Plain.{Missing, Distinct}
-use Rattle.keys.specs.Search.{withKey}
+use Rattle.keys.specs.Search.{meets, scanned, withKey}
 use Rattle.keys.proofs.Climbs.{climbs-ascend}
 use Rattle.keys.proofs.FoundLaws.{missing-exactly}
 use Rattle.header.specs.Header.{headerFits}
@@ -35,7 +35,7 @@ module _ {A : Type 0} (key : A → ℕ) (k : ℕ) where
   found-first x e xs false o t f h = (List·Memᴰ·tail (f h .0), f h .1)
 
   found-in : (e : A) (es : List A) → withKey key k es ≡ some e → List·Memᴰ e es × (key e ≡ k)
-  unfolding withKey
+  unfolding scanned meets
   found-in e [] h = let clash : _≡_ {A = ℕ} 0 1 = cc in absurd (omega arith)
   found-in e (x ∷ xs) h = found-first x e xs (eqb (key x) k) (withKey key k xs) refl (found-in e xs) h
 
@@ -44,7 +44,7 @@ unfolding answer
 found-answer none m e n h = cc
 found-answer (some x) m e n h = cc
 
-absent-answer : (o : Option (List ℕ)) (m n : ℕ) → answer o m ≡ absent n → o ≡ none
+pub absent-answer : (o : Option (List ℕ)) (m n : ℕ) → answer o m ≡ absent n → o ≡ none
 unfolding answer
 absent-answer none m n h = refl
 absent-answer (some x) m n h = cc

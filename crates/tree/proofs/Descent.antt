@@ -16,7 +16,7 @@ use Rattle.tree.specs.Tree.{children, under, leaves}
 use Rattle.tree.specs.Lookup.{Answer, refused, answer, oneMore, low, onward, pathOn, descend, pathFrom}
 use Rattle.tree.proofs.Accepted.{high, page-of, children-of, children-tiled, leaves-climb}
 
-one-more : (o : Option (List ℕ)) (n : ℕ) → oneMore (answer o n) ≡ answer o (suc n)
+pub one-more : (o : Option (List ℕ)) (n : ℕ) → oneMore (answer o n) ≡ answer o (suc n)
 unfolding oneMore answer
 one-more none n = refl
 one-more (some e) n = refl

@@ -10,7 +10,7 @@ use Rattle.refusal.specs.declared.Refusal.{Refusal}
 use Rattle.refusal.specs.declared.Fault.the-variants.{PageOffset}
 use Rattle.refusal.specs.declared.Verdict.{Verdict}
 use Rattle.refusal.specs.declared.Verdict.the-variants.{Accepted, Refused}
-use Rattle.refusal.specs.Order.{_at_}
+use Rattle.refusal.specs.Order.{_at_, after}
 use Rattle.refusal.proofs.OrderLaws.{goes, ends}
 use Rattle.keys.specs.Search.{withKey, choice}
 use Rattle.keys.proofs.SearchLaws.{chosen-has}
@@ -40,13 +40,13 @@ unfolding nextIn
 next-missing none e = refl
 next-missing (some d) e = cc
 
-counted-none : (a : Answer) → counted 0 a ≡ a
+pub counted-none : (a : Answer) → counted 0 a ≡ a
 unfolding counted
 counted-none (found e m) = ap (found e) (zero-add m)
 counted-none (absent m) = ap absent (zero-add m)
 counted-none (refused r) = refl
 
-counted-one : (n : ℕ) (o : Option (List ℕ)) → answer o (n + 1) ≡ counted n (answer o 1)
+pub counted-one : (n : ℕ) (o : Option (List ℕ)) → answer o (n + 1) ≡ counted n (answer o 1)
 unfolding counted answer
 counted-one n none = refl
 counted-one n (some e) = refl
@@ -104,19 +104,31 @@ pub chosen-level : (L : Layout) (image : List ℕ) (k l : ℕ) (p c : Link) → 
 chosen-level L image k l p c e ok =
     accepted-level L image c ok l (chosen-has (λ q. q .level ≡ Exactly l) low k (children L image l p) c (children-level L image l p) e)
 
--- where the offset is not allowed, the level plays no part
-module _ (L : Layout) (image : List ℕ) (p : Link) (k : ℕ) where
-  descend-out : (l : ℕ) → offsetFits image (p .offset) ≡ false → descend L image k l p ≡ refused (PageOffset at p .offset)
-  unfolding descend
-  descend-out zero h = ends refused _ _ _ (sym (page-ends L image p h))
-  descend-out (suc l) h = ends refused _ _ _ (sym (page-ends L image p h))
-
-  descend-any : (l m : ℕ) → (offsetFits image (p .offset) ≡ true → l ≡ m) → descend L image k l p ≡ descend L image k m p
-  descend-any l m f = by (offsetFits image (p .offset)) refl
+-- a way down from the root; where an offset is not allowed, the level plays no part
+module _ (L : Layout) (image : List ℕ) (go : ℕ → ℕ → Link → Answer)
+    (out : (k l : ℕ) (p : Link) → offsetFits image (p .offset) ≡ false → go k l p ≡ refused (PageOffset at p .offset)) where
+  any-level : (k : ℕ) (p : Link) (l m : ℕ) → (offsetFits image (p .offset) ≡ true → l ≡ m) → go k l p ≡ go k m p
+  any-level k p l m f = by (offsetFits image (p .offset)) refl
     where
-      by : (b : Bool) → offsetFits image (p .offset) ≡ b → descend L image k l p ≡ descend L image k m p
-      by true e = ap (λ n. descend L image k n p) (f e)
-      by false e = descend-out l e ∙ sym (descend-out m e)
+      by : (b : Bool) → offsetFits image (p .offset) ≡ b → go k l p ≡ go k m p
+      by true e = ap (λ n. go k n p) (f e)
+      by false e = out k l p e ∙ sym (out k m p e)
+
+  pub from-root : (key : ℕ) (v : Verdict) → v ≡ headerFits image → (p : Link) (l k : ℕ) → v ≡ Accepted → p ≡ root L image → k ≡ compared L key
+      → (offsetFits image (p .offset) ≡ true → l ≡ levelOf L (page image (p .offset)))
+      → counted 0 (go k l p) ≡ after refused (headerFits image) (go (compared L key) (rootLevel L image) (root L image))
+  unfolding rootLevel
+  from-root key v header-is p l k q e h f =
+      counted-none (go k l p)
+      ∙ any-level k p l (levelOf L (page image (p .offset))) f
+      ∙ ap (λ (x : Link). go k (levelOf L (page image (x .offset))) x) e
+      ∙ ap (λ (m : ℕ). go m (levelOf L (page image ((root L image) .offset))) (root L image)) h
+      ∙ sym (goes refused _ _ (sym header-is ∙ q))
+
+descend-out : (L : Layout) (image : List ℕ) (k l : ℕ) (p : Link) → offsetFits image (p .offset) ≡ false → descend L image k l p ≡ refused (PageOffset at p .offset)
+unfolding descend
+descend-out L image k zero p h = ends refused _ _ _ (sym (page-ends L image p h))
+descend-out L image k (suc l) p h = ends refused _ _ _ (sym (page-ends L image p h))
 
 module _ (L : Layout) (image : List ℕ) (key : ℕ) (v : Verdict) (header-is : v ≡ headerFits image) where
   pub lookup-refused : (r : Refusal) → v ≡ Refused r → refused r ≡ lookup L image key
@@ -126,10 +138,5 @@ module _ (L : Layout) (image : List ℕ) (key : ℕ) (v : Verdict) (header-is : 
   pub lookup-on : (p : Link) (l k : ℕ) → v ≡ Accepted → p ≡ root L image → k ≡ compared L key
       → (offsetFits image (p .offset) ≡ true → l ≡ levelOf L (page image (p .offset)))
       → counted 0 (descend L image k l p) ≡ lookup L image key
-  unfolding lookup rootLevel
-  lookup-on p l k q e h f =
-      counted-none (descend L image k l p)
-      ∙ descend-any L image p k l (levelOf L (page image (p .offset))) f
-      ∙ ap (λ (x : Link). descend L image k (levelOf L (page image (x .offset))) x) e
-      ∙ ap (λ (m : ℕ). descend L image m (levelOf L (page image ((root L image) .offset))) (root L image)) h
-      ∙ sym (goes refused _ _ (sym header-is ∙ q))
+  unfolding lookup
+  lookup-on = from-root L image (λ k l p. descend L image k l p) (descend-out L image) key v header-is

@@ -54,6 +54,16 @@ children-level L image l p = links-level (p .range .to) (entries L (page image (
     links-level to [] = tt
     links-level to (e ∷ es) = (refl, links-level to es)
 
+-- the i-th child has the level below
+pub next-level : (L : Layout) (image : List ℕ) (l : ℕ) (p c : Link) (i : ℕ) → nextOf (childrenFrom L image l p i) ≡ Here c
+    → pageFits L image c ≡ Accepted → levelOf L (page image (c .offset)) ≡ l
+unfolding childrenFrom links linkOf nextOf
+next-level L image l p c i e ok = accepted-level L image c ok l (by (recordsFrom (shape L (levelOf L (page image (p .offset)))) (countOf L (page image (p .offset))) (page image (p .offset)) i) e)
+  where
+    by : (es : List (List ℕ)) → nextOf (links L l (p .range .to) es) ≡ Here c → c .level ≡ Exactly l
+    by [] e = let clash : _≡_ {A = ℕ} 0 1 = cc in absurd (omega arith)
+    by (x ∷ xs) e = let same : c ≡ linkOf L l (endOf L (p .range .to) xs) x = cc in ap (λ (z : Link). z .level) same
+
 -- the children from the i-th on: one and the rest
 first-is : (L : Layout) (l : ℕ) (to : End) (x : List ℕ) (xs : List (List ℕ)) (c : Link) → nextOf (links L l to (x ∷ xs)) ≡ Here c
     → links L l to (x ∷ xs) ≡ c ∷ links L l to xs

@@ -3,6 +3,7 @@ use keys::End;
 use keys::Range;
 use keys::Seat;
 use keys::Shape;
+use keys::Sought;
 use page::Column;
 use page::Layout;
 use page::Level;
@@ -11,17 +12,19 @@ use refusal::Refusal;
 use refusal::Verdict;
 ghost use mathlib.Core.Path.{_≡_};
 ghost use mathlib.Core.Bool.{true};
+ghost use mathlib.Core.List.{map};
 ghost use Prim.Native.Nat.{_+_, _*_, _≤_, _<_};
 ghost use lib.ListN.{length};
 ghost use Rattle.le.specs.Bytes.{part};
 ghost use Rattle.keys.specs.Records.{Holds, recordAt};
-ghost use Rattle.keys.specs.Search.{withKey, choice};
+ghost use Rattle.keys.specs.Search.{lastAtMost, scanned, choice, start};
 ghost use Rattle.keys.proofs.RecordLaws.{recordsFrom};
 ghost use Rattle.page.specs.Layout.{Fair, Within, nbt, bbt, shape};
 ghost use Rattle.page.specs.Page.{page, countOf, levelOf, entries, keyIn, offsetFits, countsFit, pageFits};
 ghost use Rattle.tree.specs.Tree.{root, endOf, linkOf, links, children, each, under, treeFits};
 ghost use Rattle.tree.specs.Lookup.{low, answer, descend, lookup};
 ghost use Rattle.tree.specs.Answers.{columnOf, fieldsOf, shown, asNode, nodeOf, asBlock, blockOf, counted, childrenFrom, nextOf, nextIn, LevelIs};
+ghost use Rattle.tree.specs.Listing.{nextUnder, next, nextNodeOf, nextBlockOf};
 
 // A leaf entry's numbers, without its padding.
 pub struct Fields {
@@ -136,12 +139,20 @@ fn child_at(image: &[u8], l: Layout, level: usize, p: Link, i: usize) -> Next
     next_link(l, &image[at..at + 512], level, p, i)
 }
 
+// "Every page on this path gets the full page check": all pages that are read pass here, whatever the call.
+fn verdict_on(image: &[u8], l: Layout, p: Link) -> Verdict
+    requires { ⌜ Fair l ⌝ }
+    ensures { λ r. ⌜ r ≡ pageFits l (now (image .entry)) p ⌝ }
+{
+    page::check_page(image, l, p)
+}
+
 // The check of a page of a level and of everything under it.
 fn check_under(image: &[u8], l: Layout, level: usize, p: Link) -> Verdict
     requires { ⌜ Fair l ⌝ }
     ensures { λ r. ⌜ r ≡ under l (now (image .entry)) level p ⌝ }
 {
-    let verdict = page::check_page(image, l, p);
+    let verdict = verdict_on(image, l, p);
     let Verdict::Accepted = verdict else {
         return verdict;
     };
@@ -224,13 +235,13 @@ fn fields_at(l: Layout, page: &[u8], place: usize) -> Fields
 }
 
 // The answer at a leaf page whose counts fit, when so many pages have been read.
-fn leaf_answer(l: Layout, page: &[u8], p: Link, key: u64, pages: u64) -> Found
+fn leaf_answer(l: Layout, page: &[u8], p: Link, sought: Sought, key: u64, pages: u64) -> Found
     requires { ⌜ Fair l × (length (now page) ≡ 512) × (countsFit l p (now page) ≡ true) × (levelOf l (now page) ≡ 0) ⌝ }
-    ensures { λ r. ⌜ r ≡ shown l (answer (withKey (keyIn l) key (entries l (now (page .entry)))) pages) ⌝ }
+    ensures { λ r. ⌜ r ≡ shown l (answer (scanned sought (keyIn l) key (entries l (now (page .entry)))) pages) ⌝ }
 {
     let count = page::count_at(page, l.counts);
     let shape = page::shape_of(l, 0);
-    let seat = keys::first_equal(page, shape, count, key);
+    let seat = keys::first_that(page, shape, count, sought, key);
     let Seat::At(i) = seat else {
         return Found::Absent(pages);
     };
@@ -239,12 +250,12 @@ fn leaf_answer(l: Layout, page: &[u8], p: Link, key: u64, pages: u64) -> Found
 }
 
 // The same in an image, of an accepted page.
-fn leaf_for(image: &[u8], l: Layout, p: Link, key: u64, pages: u64) -> Found
+fn leaf_for(image: &[u8], l: Layout, p: Link, sought: Sought, key: u64, pages: u64) -> Found
     requires { ⌜ Fair l × (pageFits l (now image) p ≡ Verdict.Accepted) × (levelOf l (page (now image) (p .offset)) ≡ 0) ⌝ }
-    ensures { λ r. ⌜ r ≡ shown l (answer (withKey (keyIn l) key (entries l (page (now (image .entry)) (p .offset)))) pages) ⌝ }
+    ensures { λ r. ⌜ r ≡ shown l (answer (scanned sought (keyIn l) key (entries l (page (now (image .entry)) (p .offset)))) pages) ⌝ }
 {
     let at = p.offset as usize;
-    leaf_answer(l, &image[at..at + 512], p, key, pages)
+    leaf_answer(l, &image[at..at + 512], p, sought, key, pages)
 }
 
 // The descent from a page of a level, when so many pages have been read.
@@ -252,18 +263,67 @@ fn look(image: &[u8], l: Layout, level: usize, p: Link, key: u64, pages: u64) ->
     requires { ⌜ Fair l × LevelIs l (now image) level p × (pages + level ≤ 1000) ⌝ }
     ensures { λ r. ⌜ r ≡ shown l (counted pages (descend l (now (image .entry)) key level p)) ⌝ }
 {
-    let verdict = page::check_page(image, l, p);
+    let verdict = verdict_on(image, l, p);
     if let Verdict::Refused(refusal) = verdict {
         return Found::Refused(refusal);
     }
     if level == 0 {
-        return leaf_for(image, l, p, key, pages + 1);
+        return leaf_for(image, l, p, Sought::Equal, key, pages + 1);
     }
     let next = child_for(image, l, level - 1, p, key);
     let Next::Here(child) = next else {
         return Found::Absent(pages + 1);
     };
     look(image, l, level - 1, child, key, pages + 1)
+}
+
+// The index of the entry with which a listing starts in a page whose counts fit.
+fn start_in(l: Layout, page: &[u8], p: Link, key: u64) -> usize
+    requires { ⌜ Fair l × (length (now page) ≡ 512) × (countsFit l p (now page) ≡ true) ⌝ }
+    ensures { λ r. ⌜ (r ≡ start (lastAtMost key (map (keyIn l) (entries l (now (page .entry)))))) × (r ≤ 255) ⌝ }
+{
+    let place = l.counts;
+    let count = page::count_at(page, place);
+    let shape = page::shape_of(l, page::count_at(page, place + 3));
+    keys::start_of(page, shape, count, key)
+}
+
+// The same in an image, of an accepted page.
+fn start_for(image: &[u8], l: Layout, p: Link, key: u64) -> usize
+    requires { ⌜ Fair l × (pageFits l (now image) p ≡ Verdict.Accepted) ⌝ }
+    ensures { λ r. ⌜ (r ≡ start (lastAtMost key (map (keyIn l) (entries l (page (now (image .entry)) (p .offset)))))) × (r ≤ 255) ⌝ }
+{
+    let at = p.offset as usize;
+    start_in(l, &image[at..at + 512], p, key)
+}
+
+// The first entry from a key on under a page of a level, when so many pages have been read. The child
+// behind one that answers absent begins above the key, so it never answers absent itself.
+fn seek(image: &[u8], l: Layout, level: usize, p: Link, key: u64, pages: u64) -> Found
+    requires { ⌜ Fair l × LevelIs l (now image) level p × (level ≤ 255) × (pages + 512 * level ≤ 200000) ⌝ }
+    ensures { λ r. ⌜ r ≡ shown l (counted pages (nextUnder l (now (image .entry)) key level p)) ⌝ }
+{
+    let checked = verdict_on(image, l, p);
+    if let Verdict::Refused(wrong) = checked {
+        return Found::Refused(wrong);
+    }
+    if level == 0 {
+        return leaf_for(image, l, p, Sought::AtLeast, key, pages + 1);
+    }
+    let i = start_for(image, l, p, key);
+    let first = child_at(image, l, level - 1, p, i);
+    let Next::Here(child) = first else {
+        return Found::Absent(pages + 1);
+    };
+    let found = seek(image, l, level - 1, child, key, pages + 1);
+    let Found::Absent(read) = found else {
+        return found;
+    };
+    let second = child_at(image, l, level - 1, p, i + 1);
+    let Next::Here(further) = second else {
+        return found;
+    };
+    seek(image, l, level - 1, further, key, read)
 }
 
 // The root page, as the header refers to it.
@@ -325,6 +385,20 @@ fn find(image: &[u8], l: Layout, key: u64) -> Found
     look(image, l, level, p, page::compared(l, key), 0)
 }
 
+// The first entry from a key on.
+fn find_next(image: &[u8], l: Layout, from: u64) -> Found
+    requires { ⌜ Fair l ⌝ }
+    ensures { λ r. ⌜ r ≡ shown l (next l (now (image .entry)) from) ⌝ }
+{
+    let verdict = header::check_header(image);
+    if let Verdict::Refused(refusal) = verdict {
+        return Found::Refused(refusal);
+    }
+    let p = root_link(image, l);
+    let level = stated_level(image, l, p.offset);
+    seek(image, l, level, p, page::compared(l, from), 0)
+}
+
 pub fn check_nodes(image: &[u8]) -> Verdict
     ensures { λ r. ⌜ r ≡ treeFits nbt (now (image .entry)) ⌝ }
 {
@@ -361,6 +435,12 @@ pub fn find_node(image: &[u8], node: u64) -> FoundNode
     as_node(find(image, page::nodes(), node))
 }
 
+pub fn next_node(image: &[u8], from: u64) -> FoundNode
+    ensures { λ r. ⌜ r ≡ nextNodeOf (now (image .entry)) from ⌝ }
+{
+    as_node(find_next(image, page::nodes(), from))
+}
+
 fn as_block(found: Found) -> FoundBlock
     ensures { λ r. ⌜ r ≡ asBlock found ⌝ }
 {
@@ -383,4 +463,10 @@ pub fn find_block(image: &[u8], block: u64) -> FoundBlock
     ensures { λ r. ⌜ r ≡ blockOf (now (image .entry)) block ⌝ }
 {
     as_block(find(image, page::blocks(), block))
+}
+
+pub fn next_block(image: &[u8], from: u64) -> FoundBlock
+    ensures { λ r. ⌜ r ≡ nextBlockOf (now (image .entry)) from ⌝ }
+{
+    as_block(find_next(image, page::blocks(), from))
 }

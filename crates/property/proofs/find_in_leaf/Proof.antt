@@ -2,8 +2,9 @@ use mathlib.Core.Path.{_≡_, sym, ap, _∙_}
 use Prim.Native.Nat.{ℕ}
 use mathlib.Core.List.{List}
 use Rattle.keys.specs.declared.Seat.the-variants.{At}
+use Rattle.keys.specs.declared.Sought.the-variants.{Equal}
 use Rattle.keys.specs.Records.{keysOf}
-use Rattle.keys.specs.Search.{firstEqual, withKey}
+use Rattle.keys.specs.Search.{firstThat, withKey}
 use Rattle.property.specs.declared.Property.{Property}
 use Rattle.property.specs.Records.{leafShape, idOf, recordCount, recordsOf}
 use Rattle.property.specs.Descent.{answer}
@@ -16,16 +17,16 @@ use Rattle.property.proofs.find_in_leaf.Tie as tie
 abbrev found : List ℕ → ℕ → List ℕ → Property
 found block id records = answer block (withKey idOf id (recordsOf leafShape records))
 
-sought : (c : tie.After-known-told) → At (c .before .seat .given .0 .0) ≡ firstEqual (c .before .before .before .before .before .before .args .id) (keysOf leafShape (recordCount leafShape (c .before .before .before .before .part-of .result .now)) (c .before .before .before .before .part-of .result .now))
+sought : (c : tie.After-known-told) → At (c .before .seat .given .0 .0) ≡ firstThat Equal (c .before .before .before .before .before .before .args .id) (keysOf leafShape (recordCount leafShape (c .before .before .before .before .part-of .result .now)) (c .before .before .before .before .part-of .result .now))
 unfolding recordCount leafShape
-sought c = sym (c .before .seat .given .1) ∙ c .before .before .before .first-equal .ensures
+sought c = sym (c .before .seat .given .1) ∙ c .before .before .before .first-that .ensures
 
 returns : tie.Need-returns
 unfolding recordCount leafShape answer
 returns c =
     let a = c .before .before .before .before .before .args in
     let part = c .before .before .before .part-of in
-    sym (ap (answer (a .block .now)) (leaf-none (part .result .now) (a .id) (sym (c .enum-told .given .1) ∙ c .before .before .first-equal .ensures)))
+    sym (ap (answer (a .block .now)) (leaf-none (part .result .now) (a .id) (sym (c .enum-told .given .1) ∙ c .before .before .first-that .ensures)))
     ∙ ap (found (a .block .now) (a .id)) (part .ensures)
 
 property-at-requires : tie.Need-property-at-requires

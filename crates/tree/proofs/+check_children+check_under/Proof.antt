@@ -14,7 +14,7 @@ use Rattle.tree.proofs.+check_children+check_under.Lts-check_children a
 use Rattle.tree.proofs.check_under.Reads as check-under
 use Rattle.tree.proofs.check_under.Kinds as check-under-kinds
 use Rattle.tree.proofs.+check_children+check_under.Lts-check_under as check-under-lts
-use Rattle.page.proofs.check_page.Reads as check-page-reads
+use Rattle.tree.proofs.verdict_on.Reads as verdict-on-reads
 use Rattle.tree.proofs.child_at.Reads as child-at-reads
 use Rattle.tree.proofs.+check_children+check_under.{statement}
 use Rattle.tree.proofs.+check_children+check_under.Tie.{close}
@@ -181,17 +181,17 @@ check-children-returns-3 t c =
     c .check-children .ensures ∙ walk-on (under (a .l) (a .image .now) (a .level)) _ _ _ _ (more (a .l) (a .image .now) (a .level) (a .p) (a .i) (c .before .before .before .before .before .next .given .0 .0) (sym (c .before .before .before .before .before .before .before .child-at .ensures) ∙ c .before .before .before .before .before .next .given .1) .1) (c .before .before .before .check-under .ensures) (c .before .enum-told2 .given .1)
 
 -- src/lib.rt:136:9
-check-under-check-page-requires : (t : ℕ) → check-under-lts.Need-check-page-requires (
-  check-page-reads.Asked,
-  check-page-reads.Learnt,
+check-under-verdict-on-requires : (t : ℕ) → check-under-lts.Need-verdict-on-requires (
+  verdict-on-reads.Asked,
+  verdict-on-reads.Learnt,
   check-children-below t,
   check-children.Post,
 ) (check-under-at t) check-under.Post
-check-under-check-page-requires t c κs = search needs
+check-under-verdict-on-requires t c κs = search needs
 
 check-under-enum-told : (t : ℕ) → check-under-lts.Need-enum-told (
-  check-page-reads.Asked,
-  check-page-reads.Learnt,
+  verdict-on-reads.Asked,
+  verdict-on-reads.Learnt,
   check-children-below t,
   check-children.Post,
 ) (check-under-at t) check-under.Post
@@ -199,8 +199,8 @@ check-under-enum-told t c = search needs
 
 -- src/lib.rt:138:9
 check-under-enum-told-2 : (t : ℕ) → check-under-lts.Need-enum-told-2 (
-  check-page-reads.Asked,
-  check-page-reads.Learnt,
+  verdict-on-reads.Asked,
+  verdict-on-reads.Learnt,
   check-children-below t,
   check-children.Post,
 ) (check-under-at t) check-under.Post
@@ -208,30 +208,30 @@ check-under-enum-told-2 t c = search needs
 
 -- src/lib.rt:138:9
 check-under-returns : (t : ℕ) → check-under-lts.Need-returns (
-  check-page-reads.Asked,
-  check-page-reads.Learnt,
+  verdict-on-reads.Asked,
+  verdict-on-reads.Learnt,
   check-children-below t,
   check-children.Post,
 ) (check-under-at t) check-under.Post
 check-under-returns t c =
     let a = c .before .before .before .before .args in
-    under-refused (a .l) (a .image .now) (a .level) (a .p) _ _ (c .before .before .check-page .ensures) (c .enum-told2 .given .1)
+    under-refused (a .l) (a .image .now) (a .level) (a .p) _ _ (c .before .before .verdict-on .ensures) (c .enum-told2 .given .1)
 
 -- src/lib.rt:141:9
 check-under-returns-2 : (t : ℕ) → check-under-lts.Need-returns-2 (
-  check-page-reads.Asked,
-  check-page-reads.Learnt,
+  verdict-on-reads.Asked,
+  verdict-on-reads.Learnt,
   check-children-below t,
   check-children.Post,
 ) (check-under-at t) check-under.Post
 check-under-returns-2 t c =
     let a = c .before .before .before .before .before .args in
-    under-leaf (a .l) (a .image .now) (a .level) (a .p) _ (c .if1 .taken) (c .before .before .before .check-page .ensures) (c .before .enum-told .given .1)
+    under-leaf (a .l) (a .image .now) (a .level) (a .p) _ (c .if1 .taken) (c .before .before .before .verdict-on .ensures) (c .before .enum-told .given .1)
 
 -- src/lib.rt:143:30
 check-under-sub-check-children : (t : ℕ) → check-under-lts.Need-sub-check-children (
-  check-page-reads.Asked,
-  check-page-reads.Learnt,
+  verdict-on-reads.Asked,
+  verdict-on-reads.Learnt,
   check-children-below t,
   check-children.Post,
 ) (check-under-at t) check-under.Post
@@ -239,25 +239,25 @@ check-under-sub-check-children t c = omega arith
 
 -- src/lib.rt:143:5
 check-under-check-children-requires : (t : ℕ) → check-under-lts.Need-check-children-requires (
-  check-page-reads.Asked,
-  check-page-reads.Learnt,
+  verdict-on-reads.Asked,
+  verdict-on-reads.Learnt,
   check-children-below t,
   check-children.Post,
 ) (check-under-at t) check-under.Post
 check-under-check-children-requires t c κs =
     let pre = c .before .before .before .before .before .pre in
-    (omega (arith, pre .0), (pre .1, sym (c .before .before .before .check-page .ensures) ∙ c .before .enum-told .given .1, omega arith))
+    (omega (arith, pre .0), (pre .1, sym (c .before .before .before .verdict-on .ensures) ∙ c .before .enum-told .given .1, omega arith))
 
 -- src/lib.rt:132:1
 check-under-returns-3 : (t : ℕ) → check-under-lts.Need-returns-3 (
-  check-page-reads.Asked,
-  check-page-reads.Learnt,
+  verdict-on-reads.Asked,
+  verdict-on-reads.Learnt,
   check-children-below t,
   check-children.Post,
 ) (check-under-at t) check-under.Post
 check-under-returns-3 t c =
     let a = c .before .before .before .before .before .before .args in
-    c .check-children .ensures ∙ under-index (a .l) (a .image .now) (a .level) (a .p) _ (c .before .if1 .left) (c .before .before .before .before .check-page .ensures) (c .before .before .enum-told .given .1)
+    c .check-children .ensures ∙ under-index (a .l) (a .image .now) (a .level) (a .p) _ (c .before .if1 .left) (c .before .before .before .before .verdict-on .ensures) (c .before .before .enum-told .given .1)
 
 pub +check-children+check-under-spec : {M : Type 1} → statement M
 +check-children+check-under-spec =
@@ -283,10 +283,10 @@ pub +check-children+check-under-spec : {M : Type 1} → statement M
     (check-children-check-children-requires t)
     (check-children-returns-3 t))
     λ t. check-under-lts.spec
-    (check-page-reads.Asked, check-page-reads.Learnt, check-children-below t, check-children.Post)
+    (verdict-on-reads.Asked, verdict-on-reads.Learnt, check-children-below t, check-children.Post)
     (check-under-at t)
     check-under.Post
-    (check-under-check-page-requires t)
+    (check-under-verdict-on-requires t)
     (check-under-enum-told t)
     (check-under-enum-told-2 t)
     (check-under-returns t)

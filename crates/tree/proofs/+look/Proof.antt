@@ -10,7 +10,7 @@ use borrow.Fn.PlainCycle.{Measures, is, falls, and}
 use Rattle.tree.proofs.look.Reads as look
 use Rattle.tree.proofs.look.Kinds as look-kinds
 use Rattle.tree.proofs.+look.Lts-look as look-lts
-use Rattle.page.proofs.check_page.Reads as check-page-reads
+use Rattle.tree.proofs.verdict_on.Reads as verdict-on-reads
 use Rattle.tree.proofs.child_for.Reads as child-for-reads
 use Rattle.tree.proofs.leaf_for.Reads as leaf-for-reads
 use Rattle.tree.proofs.+look.{statement}
@@ -26,9 +26,9 @@ abbrev look-below : ℕ → In 1 look-kinds.ps
 look-below t = and 1 look-kinds.ps (falls 1 look-kinds.ps _<_ μ-look t) look.Pre
 
 -- src/lib.rt:247:9
-look-check-page-requires : (t : ℕ) → look-lts.Need-check-page-requires (
-  check-page-reads.Asked,
-  check-page-reads.Learnt,
+look-verdict-on-requires : (t : ℕ) → look-lts.Need-verdict-on-requires (
+  verdict-on-reads.Asked,
+  verdict-on-reads.Learnt,
   leaf-for-reads.Asked,
   leaf-for-reads.Learnt,
   child-for-reads.Asked,
@@ -36,12 +36,12 @@ look-check-page-requires : (t : ℕ) → look-lts.Need-check-page-requires (
   look-below t,
   look.Post,
 ) (look-at t) look.Post
-look-check-page-requires t c κs = search needs
+look-verdict-on-requires t c κs = search needs
 
 -- src/lib.rt:248:29
 look-enum-known-verdict : (t : ℕ) → look-lts.Need-enum-known-verdict (
-  check-page-reads.Asked,
-  check-page-reads.Learnt,
+  verdict-on-reads.Asked,
+  verdict-on-reads.Learnt,
   leaf-for-reads.Asked,
   leaf-for-reads.Learnt,
   child-for-reads.Asked,
@@ -53,8 +53,8 @@ look-enum-known-verdict t c = search needs
 
 -- src/lib.rt:249:9
 look-returns : (t : ℕ) → look-lts.Need-returns (
-  check-page-reads.Asked,
-  check-page-reads.Learnt,
+  verdict-on-reads.Asked,
+  verdict-on-reads.Learnt,
   leaf-for-reads.Asked,
   leaf-for-reads.Learnt,
   child-for-reads.Asked,
@@ -65,11 +65,11 @@ look-returns : (t : ℕ) → look-lts.Need-returns (
 unfolding shown
 look-returns t c =
     let a = c .before .before .before .before .before .args in
-    ap (shown (a .l)) (look-refused (a .l) (a .image .now) (a .key) (a .pages) (a .p) _ (c .before .before .before .check-page .ensures) (a .level) _ (c .before .verdict .given .1))
+    ap (shown (a .l)) (look-refused (a .l) (a .image .now) (a .key) (a .pages) (a .p) _ (c .before .before .before .verdict-on .ensures) (a .level) _ (c .before .verdict .given .1))
 
 look-enum-told : (t : ℕ) → look-lts.Need-enum-told (
-  check-page-reads.Asked,
-  check-page-reads.Learnt,
+  verdict-on-reads.Asked,
+  verdict-on-reads.Learnt,
   leaf-for-reads.Asked,
   leaf-for-reads.Learnt,
   child-for-reads.Asked,
@@ -81,8 +81,8 @@ look-enum-told t c = search needs
 
 -- src/lib.rt:252:43
 look-add-leaf-for : (t : ℕ) → look-lts.Need-add-leaf-for (
-  check-page-reads.Asked,
-  check-page-reads.Learnt,
+  verdict-on-reads.Asked,
+  verdict-on-reads.Learnt,
   leaf-for-reads.Asked,
   leaf-for-reads.Learnt,
   child-for-reads.Asked,
@@ -94,8 +94,8 @@ look-add-leaf-for t c = search needs
 
 -- src/lib.rt:252:9
 look-leaf-for-requires : (t : ℕ) → look-lts.Need-leaf-for-requires (
-  check-page-reads.Asked,
-  check-page-reads.Learnt,
+  verdict-on-reads.Asked,
+  verdict-on-reads.Learnt,
   leaf-for-reads.Asked,
   leaf-for-reads.Learnt,
   child-for-reads.Asked,
@@ -104,14 +104,14 @@ look-leaf-for-requires : (t : ℕ) → look-lts.Need-leaf-for-requires (
   look.Post,
 ) (look-at t) look.Post
 look-leaf-for-requires t c κs =
-    let ok = sym (c .before .before .before .check-page .ensures) ∙ c .before .enum-told .given .1 in
+    let ok = sym (c .before .before .before .verdict-on .ensures) ∙ c .before .enum-told .given .1 in
     let pre = c .before .before .before .before .before .pre in
     (pre .1 .0, ok, pre .1 .1 ok ∙ c .if1 .taken)
 
 -- src/lib.rt:252:9
 look-returns-2 : (t : ℕ) → look-lts.Need-returns-2 (
-  check-page-reads.Asked,
-  check-page-reads.Learnt,
+  verdict-on-reads.Asked,
+  verdict-on-reads.Learnt,
   leaf-for-reads.Asked,
   leaf-for-reads.Learnt,
   child-for-reads.Asked,
@@ -121,12 +121,12 @@ look-returns-2 : (t : ℕ) → look-lts.Need-returns-2 (
 ) (look-at t) look.Post
 look-returns-2 t c =
     let a = c .before .before .before .before .before .before .args in
-    c .leaf-for .ensures ∙ ap (shown (a .l)) (look-leaf (a .l) (a .image .now) (a .key) (a .pages) (a .p) _ (c .before .before .before .before .check-page .ensures) (a .level) (c .before .if1 .taken) (c .before .before .enum-told .given .1))
+    c .leaf-for .ensures ∙ ap (shown (a .l)) (look-leaf (a .l) (a .image .now) (a .key) (a .pages) (a .p) _ (c .before .before .before .before .verdict-on .ensures) (a .level) (c .before .if1 .taken) (c .before .before .enum-told .given .1))
 
 -- src/lib.rt:254:36
 look-sub-child-for : (t : ℕ) → look-lts.Need-sub-child-for (
-  check-page-reads.Asked,
-  check-page-reads.Learnt,
+  verdict-on-reads.Asked,
+  verdict-on-reads.Learnt,
   leaf-for-reads.Asked,
   leaf-for-reads.Learnt,
   child-for-reads.Asked,
@@ -138,8 +138,8 @@ look-sub-child-for t c = search needs
 
 -- src/lib.rt:254:9
 look-child-for-requires : (t : ℕ) → look-lts.Need-child-for-requires (
-  check-page-reads.Asked,
-  check-page-reads.Learnt,
+  verdict-on-reads.Asked,
+  verdict-on-reads.Learnt,
   leaf-for-reads.Asked,
   leaf-for-reads.Learnt,
   child-for-reads.Asked,
@@ -147,12 +147,12 @@ look-child-for-requires : (t : ℕ) → look-lts.Need-child-for-requires (
   look-below t,
   look.Post,
 ) (look-at t) look.Post
-look-child-for-requires t c κs = (c .before .before .before .before .before .pre .1 .0, sym (c .before .before .before .check-page .ensures) ∙ c .before .enum-told .given .1)
+look-child-for-requires t c κs = (c .before .before .before .before .before .pre .1 .0, sym (c .before .before .before .verdict-on .ensures) ∙ c .before .enum-told .given .1)
 
 -- src/lib.rt:255:20
 look-enum-known-next : (t : ℕ) → look-lts.Need-enum-known-next (
-  check-page-reads.Asked,
-  check-page-reads.Learnt,
+  verdict-on-reads.Asked,
+  verdict-on-reads.Learnt,
   leaf-for-reads.Asked,
   leaf-for-reads.Learnt,
   child-for-reads.Asked,
@@ -164,8 +164,8 @@ look-enum-known-next t c = search needs
 
 -- src/lib.rt:256:30
 look-enum-told-2 : (t : ℕ) → look-lts.Need-enum-told-2 (
-  check-page-reads.Asked,
-  check-page-reads.Learnt,
+  verdict-on-reads.Asked,
+  verdict-on-reads.Learnt,
   leaf-for-reads.Asked,
   leaf-for-reads.Learnt,
   child-for-reads.Asked,
@@ -176,9 +176,9 @@ look-enum-told-2 : (t : ℕ) → look-lts.Need-enum-told-2 (
 look-enum-told-2 t c = search needs
 
 -- src/lib.rt:256:30
-look-add-t14 : (t : ℕ) → look-lts.Need-add-t14 (
-  check-page-reads.Asked,
-  check-page-reads.Learnt,
+look-add-t15 : (t : ℕ) → look-lts.Need-add-t15 (
+  verdict-on-reads.Asked,
+  verdict-on-reads.Learnt,
   leaf-for-reads.Asked,
   leaf-for-reads.Learnt,
   child-for-reads.Asked,
@@ -186,12 +186,12 @@ look-add-t14 : (t : ℕ) → look-lts.Need-add-t14 (
   look-below t,
   look.Post,
 ) (look-at t) look.Post
-look-add-t14 t c = search needs
+look-add-t15 t c = search needs
 
 -- src/lib.rt:256:9
 look-returns-3 : (t : ℕ) → look-lts.Need-returns-3 (
-  check-page-reads.Asked,
-  check-page-reads.Learnt,
+  verdict-on-reads.Asked,
+  verdict-on-reads.Learnt,
   leaf-for-reads.Asked,
   leaf-for-reads.Learnt,
   child-for-reads.Asked,
@@ -203,13 +203,13 @@ unfolding shown
 look-returns-3 t c =
     let a = c .before .before .before .before .before .before .before .before .args in
     ap (shown (a .l))
-    (look-absent (a .l) (a .image .now) (a .key) (a .pages) (a .p) _ (c .before .before .before .before .before .before .check-page .ensures) (a .level) (c .before .before .before .if1 .left) (c .before .before .before .before .enum-told .given .1)
+    (look-absent (a .l) (a .image .now) (a .key) (a .pages) (a .p) _ (c .before .before .before .before .before .before .verdict-on .ensures) (a .level) (c .before .before .before .if1 .left) (c .before .before .before .before .enum-told .given .1)
     (next-missing _ (sym (c .before .before .child-for .ensures) ∙ c .enum-told2 .given .1)))
 
 -- src/lib.rt:258:20
 look-sub-look : (t : ℕ) → look-lts.Need-sub-look (
-  check-page-reads.Asked,
-  check-page-reads.Learnt,
+  verdict-on-reads.Asked,
+  verdict-on-reads.Learnt,
   leaf-for-reads.Asked,
   leaf-for-reads.Learnt,
   child-for-reads.Asked,
@@ -221,8 +221,8 @@ look-sub-look t c = search needs
 
 -- src/lib.rt:258:43
 look-add-look : (t : ℕ) → look-lts.Need-add-look (
-  check-page-reads.Asked,
-  check-page-reads.Learnt,
+  verdict-on-reads.Asked,
+  verdict-on-reads.Learnt,
   leaf-for-reads.Asked,
   leaf-for-reads.Learnt,
   child-for-reads.Asked,
@@ -234,8 +234,8 @@ look-add-look t c = search needs
 
 -- src/lib.rt:258:5
 look-look-requires : (t : ℕ) → look-lts.Need-look-requires (
-  check-page-reads.Asked,
-  check-page-reads.Learnt,
+  verdict-on-reads.Asked,
+  verdict-on-reads.Learnt,
   leaf-for-reads.Asked,
   leaf-for-reads.Learnt,
   child-for-reads.Asked,
@@ -257,8 +257,8 @@ look-look-requires t c κs =
 
 -- src/lib.rt:243:1
 look-returns-4 : (t : ℕ) → look-lts.Need-returns-4 (
-  check-page-reads.Asked,
-  check-page-reads.Learnt,
+  verdict-on-reads.Asked,
+  verdict-on-reads.Learnt,
   leaf-for-reads.Asked,
   leaf-for-reads.Learnt,
   child-for-reads.Asked,
@@ -270,13 +270,13 @@ look-returns-4 t c =
     let a = c .before .before .before .before .before .before .before .before .before .before .args in
     c .look .ensures
     ∙ ap (shown (a .l))
-    (look-on (a .l) (a .image .now) (a .key) (a .pages) (a .p) _ (c .before .before .before .before .before .before .before .before .check-page .ensures) (a .level) (c .before .before .next .given .0 .0) (c .before .before .before .before .before .if1 .left) (c .before .before .before .before .before .before .enum-told .given .1)
+    (look-on (a .l) (a .image .now) (a .key) (a .pages) (a .p) _ (c .before .before .before .before .before .before .before .before .verdict-on .ensures) (a .level) (c .before .before .next .given .0 .0) (c .before .before .before .before .before .if1 .left) (c .before .before .before .before .before .before .enum-told .given .1)
     (next-chosen _ _ (sym (c .before .before .before .before .child-for .ensures) ∙ c .before .before .next .given .1)))
 
 pub +look-spec : {M : Type 1} → statement M
 +look-spec = close μ-look λ t. look-lts.spec (
-  check-page-reads.Asked,
-  check-page-reads.Learnt,
+  verdict-on-reads.Asked,
+  verdict-on-reads.Learnt,
   leaf-for-reads.Asked,
   leaf-for-reads.Learnt,
   child-for-reads.Asked,
@@ -286,7 +286,7 @@ pub +look-spec : {M : Type 1} → statement M
 )
     (look-at t)
     look.Post
-    (look-check-page-requires t)
+    (look-verdict-on-requires t)
     (look-enum-known-verdict t)
     (look-returns t)
     (look-enum-told t)
@@ -297,7 +297,7 @@ pub +look-spec : {M : Type 1} → statement M
     (look-child-for-requires t)
     (look-enum-known-next t)
     (look-enum-told-2 t)
-    (look-add-t14 t)
+    (look-add-t15 t)
     (look-returns-3 t)
     (look-sub-look t)
     (look-add-look t)

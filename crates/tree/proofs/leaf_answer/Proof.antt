@@ -11,9 +11,9 @@ use borrow.Author.Needs.{needs}
 use Rattle.tree.proofs.leaf_answer.Statement.{statement}
 use Rattle.tree.proofs.leaf_answer.Tie as tie
 
-first-equal-requires : tie.Need-first-equal-requires
+first-that-requires : tie.Need-first-that-requires
 unfolding countOf levelOf
-first-equal-requires c κs =
+first-that-requires c κs =
     let a = c .before .before .before .args in
     rw (c .shape-of .ensures ∙ ap (shape (a .l)) (sym (c .before .before .before .pre .3)), c .before .count-at .ensures .0)
     (entries-held (a .l) (a .p) (a .page .now) (c .before .before .before .pre .0) (c .before .before .before .pre .2) (c .before .before .before .pre .1))
@@ -22,7 +22,7 @@ returns : tie.Need-returns
 unfolding countOf
 returns c =
     let a = c .before .before .before .before .before .before .args in
-    leaf-none (a .l) _ (a .pages) (found-none (a .l) (a .page .now) (a .key) (rw (c .before .before .before .shape-of .ensures ∙ ap (shape (a .l)) (sym (c .before .before .before .before .before .before .pre .3)), c .before .before .before .before .count-at .ensures .0) at (sym (c .before .before .first-equal .ensures) ∙ c .enum-told .given .1)))
+    leaf-none (a .l) _ (a .pages) (found-none (a .l) (a .page .now) (a .sought) (a .key) (rw (c .before .before .before .shape-of .ensures ∙ ap (shape (a .l)) (sym (c .before .before .before .before .before .before .pre .3)), c .before .before .before .before .count-at .ensures .0) at (sym (c .before .before .first-that .ensures) ∙ c .enum-told .given .1)))
 
 mul-fields-at : tie.Need-mul-fields-at
 unfolding countOf
@@ -31,7 +31,7 @@ mul-fields-at c =
     omega (
       arith,
       leaf-inside (a .l) (a .p) (a .page .now) (c .before .before .before .before .before .before .before .before .pre .0) (c .before .before .before .before .before .before .before .before .pre .1) (c .before .before .before .before .before .before .before .before .pre .2) (c .before .before .before .before .before .before .before .before .pre .3) (c .before .before .seat .given .0 .0)
-          (found-inside (a .l) (a .page .now) (a .key) (c .before .before .seat .given .0 .0) (rw (c .before .before .before .before .before .shape-of .ensures ∙ ap (shape (a .l)) (sym (c .before .before .before .before .before .before .before .before .pre .3)), c .before .before .before .before .before .before .count-at .ensures .0) at (sym (c .before .before .before .before .first-equal .ensures) ∙ c .before .before .seat .given .1))),
+          (found-inside (a .l) (a .page .now) (a .sought) (a .key) (c .before .before .seat .given .0 .0) (rw (c .before .before .before .before .before .shape-of .ensures ∙ ap (shape (a .l)) (sym (c .before .before .before .before .before .before .before .before .pre .3)), c .before .before .before .before .before .before .count-at .ensures .0) at (sym (c .before .before .before .before .first-that .ensures) ∙ c .before .before .seat .given .1))),
     )
 
 fields-at-requires : tie.Need-fields-at-requires
@@ -42,7 +42,7 @@ fields-at-requires c κs =
       omega (
         arith,
         leaf-inside (a .l) (a .p) (a .page .now) (c .before .before .before .before .before .before .before .before .pre .0) (c .before .before .before .before .before .before .before .before .pre .1) (c .before .before .before .before .before .before .before .before .pre .2) (c .before .before .before .before .before .before .before .before .pre .3) (c .before .before .seat .given .0 .0)
-            (found-inside (a .l) (a .page .now) (a .key) (c .before .before .seat .given .0 .0) (rw (c .before .before .before .before .before .shape-of .ensures ∙ ap (shape (a .l)) (sym (c .before .before .before .before .before .before .before .before .pre .3)), c .before .before .before .before .before .before .count-at .ensures .0) at (sym (c .before .before .before .before .first-equal .ensures) ∙ c .before .before .seat .given .1))),
+            (found-inside (a .l) (a .page .now) (a .sought) (a .key) (c .before .before .seat .given .0 .0) (rw (c .before .before .before .before .before .shape-of .ensures ∙ ap (shape (a .l)) (sym (c .before .before .before .before .before .before .before .before .pre .3)), c .before .before .before .before .before .before .count-at .ensures .0) at (sym (c .before .before .before .before .first-that .ensures) ∙ c .before .before .seat .given .1))),
       ),
     )
 
@@ -51,7 +51,7 @@ unfolding countOf
 returns-2 c =
     let a = c .before .before .before .before .before .before .before .before .before .args in
     rw (c .fields-at .ensures, ← (leaf-record (a .l) (a .p) (a .page .now) (c .before .before .before .before .before .before .before .before .before .pre .0) (c .before .before .before .before .before .before .before .before .before .pre .1) (c .before .before .before .before .before .before .before .before .before .pre .2) (c .before .before .before .before .before .before .before .before .before .pre .3) (c .before .before .before .seat .given .0 .0)))
-    (leaf-some (a .l) _ (a .pages) _ (found-some (a .l) (a .page .now) (a .key) (c .before .before .before .seat .given .0 .0) (rw (c .before .before .before .before .before .before .shape-of .ensures ∙ ap (shape (a .l)) (sym (c .before .before .before .before .before .before .before .before .before .pre .3)), c .before .before .before .before .before .before .before .count-at .ensures .0) at (sym (c .before .before .before .before .before .first-equal .ensures) ∙ c .before .before .before .seat .given .1))))
+    (leaf-some (a .l) _ (a .pages) _ (found-some (a .l) (a .page .now) (a .sought) (a .key) (c .before .before .before .seat .given .0 .0) (rw (c .before .before .before .before .before .before .shape-of .ensures ∙ ap (shape (a .l)) (sym (c .before .before .before .before .before .before .before .before .before .pre .3)), c .before .before .before .before .before .before .before .count-at .ensures .0) at (sym (c .before .before .before .before .before .first-that .ensures) ∙ c .before .before .before .seat .given .1))))
 
 pub leaf-answer-spec : {M : Type 1} → statement M
 leaf-answer-spec =
@@ -59,7 +59,7 @@ leaf-answer-spec =
     (tie.spec
     (λ c κs. search needs)
     (λ c κs. search needs)
-    first-equal-requires
+    first-that-requires
     (λ c. search needs)
     (λ c. search needs)
     returns

@@ -1,0 +1,52 @@
+-- What a listing tells of a tree, over any layout. Assumes nothing: these are definitions.
+use Prim.Native.Nat.{ℕ, suc, _+_, _*_, _^_, _≤_, _<_}
+use mathlib.Core.Path.{_≡_}
+use mathlib.Core.Logic.{_↔_}
+use mathlib.Core.Option.{Option, none}
+use mathlib.Core.List.{List, [], _∷_}
+use Rattle.le.specs.Bytes.{Bytes}
+use Rattle.refusal.specs.declared.Verdict.the-variants.{Accepted}
+use Rattle.keys.specs.Plain.{All}
+use Rattle.keys.specs.Search.{fromKey}
+use Rattle.page.specs.declared.Layout.{Layout}
+use Rattle.page.specs.Layout.{compared}
+use Rattle.page.specs.Page.{keyIn}
+use Rattle.tree.specs.Tree.{rootLevel, treeFits, scan}
+use Rattle.tree.specs.Lookup.{Answer, found, absent, refused, answer}
+use Rattle.tree.specs.Listing.{next}
+
+-- an answer of at most so many pages; a refusal counts none
+unfoldable pub AtMost : ℕ → Answer → Type 0
+AtMost most (found e n) = n ≤ most
+AtMost most (absent n) = n ≤ most
+AtMost most (refused r) = Unit {0}
+
+-- the entry or none, with some count of pages
+pub record Says (a : Answer) (o : Option (List ℕ)) : Type 0 where
+  pub pages : ℕ
+  pub is : a ≡ answer o pages
+
+-- going from k on, each time one above the key found, until the call answers absent or no key stands above the one found: these entries, one after the other
+pub data Lists (L : Layout) (image : List ℕ) : ℕ → List (List ℕ) → Type 0 where
+  ended : {k n : ℕ} → next L image k ≡ absent n → Lists L image k []
+  topped : {k n : ℕ} {e : List ℕ} → next L image k ≡ found e n → suc (keyIn L e) ≡ 256 ^ L .sought → Lists L image k (e ∷ [])
+  onward : {k n : ℕ} {e : List ℕ} {es : List (List ℕ)} → next L image k ≡ found e n → suc (keyIn L e) < 256 ^ L .sought
+      → Lists L image (suc (keyIn L e)) es → Lists L image k (e ∷ es)
+
+-- what holds of every image whose header and tree are accepted
+pub record Listing (L : Layout) (image : List ℕ) : Type 0 where
+  -- the answer is the first entry of the plain scan whose key is at least `from`, and never a refusal
+  pub answers : (from : ℕ) → Says (next L image from) (fromKey (keyIn L) (compared L from) (scan L image))
+  -- absent exactly when the key of every leaf entry is below
+  pub absent-iff : (from : ℕ) → Says (next L image from) none ↔ All (λ e. keyIn L e < compared L from) (scan L image)
+
+abbrev pub ListingHolds : Type 0
+ListingHolds = (L : Layout) (image : List ℕ) → treeFits L image ≡ Accepted → Listing L image
+
+-- in any image at all, accepted or not, at most twice the root's level plus one pages are read
+abbrev pub FewPagesHolds : Type 0
+FewPagesHolds = (L : Layout) (image : List ℕ) (from : ℕ) → AtMost (2 * rootLevel L image + 1) (next L image from)
+
+-- going from 0 lists exactly the scan, in order, and ends; a key that stands in the tree can be sought
+abbrev pub ListsHolds : Type 0
+ListsHolds = (L : Layout) (image : List ℕ) → L .key ≤ L .sought → Bytes image → treeFits L image ≡ Accepted → Lists L image 0 (scan L image)
