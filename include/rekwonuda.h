@@ -127,6 +127,14 @@ struct rkw_node_answer rkw_find_node(const uint8_t *image, size_t len, uint64_t 
 /* Looks up a block by its number, with the same checks. Refusals 1 to 11. */
 struct rkw_block_answer rkw_find_block(const uint8_t *image, size_t len, uint64_t block);
 
+/* The first node, or block, whose number is at least `from`, answered as by the lookup; a node by the
+ * low four bytes of both. Going from 0, each time one above the number found, goes through a whole
+ * checked tree in order; there is none behind node 0xFFFFFFFF and block 0xFFFFFFFFFFFFFFFF, so end
+ * there too. The header and every page read are checked in full; of a tree whose root has level n at
+ * most 2n + 1 pages are read. Refusals 1 to 11. */
+struct rkw_node_answer rkw_next_node(const uint8_t *image, size_t len, uint64_t from);
+struct rkw_block_answer rkw_next_block(const uint8_t *image, size_t len, uint64_t from);
+
 /* Looks up a block and tests its place, trailer and checksum. Refusals 1 to 15. */
 struct rkw_size_answer rkw_test_block(const uint8_t *image, size_t len, uint64_t block);
 

@@ -75,10 +75,9 @@ static void call_header(void)
     printf("\n");
 }
 
-static void call_find_node(uint64_t node)
+static void node(const char *call, struct rkw_node_answer a)
 {
-    struct rkw_node_answer a = rkw_find_node(image, IMAGE, node);
-    refusal("rkw_find_node", a.refusal, a.place, a.more);
+    refusal(call, a.refusal, a.place, a.more);
     field("found", a.found);
     field("pages", a.pages);
     field("node", a.node);
@@ -88,10 +87,9 @@ static void call_find_node(uint64_t node)
     printf("\n");
 }
 
-static void call_find_block(uint64_t block)
+static void block(const char *call, struct rkw_block_answer a)
 {
-    struct rkw_block_answer a = rkw_find_block(image, IMAGE, block);
-    refusal("rkw_find_block", a.refusal, a.place, a.more);
+    refusal(call, a.refusal, a.place, a.more);
     field("found", a.found);
     field("pages", a.pages);
     field("block", a.block);
@@ -174,12 +172,18 @@ static void call_trees(void)
     call_header();
     verdict("rkw_check_nodes", rkw_check_nodes(image, IMAGE));
     verdict("rkw_check_blocks", rkw_check_blocks(image, IMAGE));
-    call_find_node(0x122);
-    call_find_node(0x20);
-    call_find_node(0x804F);
-    call_find_block(0x40);
-    call_find_block(3);
-    call_find_block(0x74);
+    node("rkw_find_node", rkw_find_node(image, IMAGE, 0x122));
+    node("rkw_find_node", rkw_find_node(image, IMAGE, 0x20));
+    node("rkw_find_node", rkw_find_node(image, IMAGE, 0x804F));
+    block("rkw_find_block", rkw_find_block(image, IMAGE, 0x40));
+    block("rkw_find_block", rkw_find_block(image, IMAGE, 3));
+    block("rkw_find_block", rkw_find_block(image, IMAGE, 0x74));
+    node("rkw_next_node", rkw_next_node(image, IMAGE, 0x122));
+    node("rkw_next_node", rkw_next_node(image, IMAGE, 0x123));
+    node("rkw_next_node", rkw_next_node(image, IMAGE, 0x62C));
+    block("rkw_next_block", rkw_next_block(image, IMAGE, 0));
+    block("rkw_next_block", rkw_next_block(image, IMAGE, 0x39));
+    block("rkw_next_block", rkw_next_block(image, IMAGE, 0x71));
 }
 
 static void call_blocks(void)

@@ -17,6 +17,10 @@ use Rattle.pst.proofs.find_node.Reads as find-node
 use Rattle.pst.proofs.find_node.Kinds as find-node-kinds
 use Rattle.pst.proofs.find_block.Reads as find-block
 use Rattle.pst.proofs.find_block.Kinds as find-block-kinds
+use Rattle.pst.proofs.next_node.Reads as next-node
+use Rattle.pst.proofs.next_node.Kinds as next-node-kinds
+use Rattle.pst.proofs.next_block.Reads as next-block
+use Rattle.pst.proofs.next_block.Kinds as next-block-kinds
 use Rattle.pst.proofs.test_block.Reads as test-block
 use Rattle.pst.proofs.test_block.Kinds as test-block-kinds
 use Rattle.pst.proofs.read_block.Reads as read-block
@@ -63,6 +67,12 @@ find-node-single κs a x y s t p q = node-injective x y (p ∙ sym q)
 
 find-block-single : Single 1 find-block-kinds.ps find-block-kinds.r find-block.Post
 find-block-single κs a x y s t p q = block-injective x y (p ∙ sym q)
+
+next-node-single : Single 1 next-node-kinds.ps next-node-kinds.r next-node.Post
+next-node-single κs a x y s t p q = node-injective x y (p ∙ sym q)
+
+next-block-single : Single 1 next-block-kinds.ps next-block-kinds.r next-block.Post
+next-block-single κs a x y s t p q = block-injective x y (p ∙ sym q)
 
 test-block-single : Single 1 test-block-kinds.ps test-block-kinds.r test-block.Post
 test-block-single κs a x y s t p q = sized-injective x y (p ∙ sym q)

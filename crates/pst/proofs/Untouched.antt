@@ -7,6 +7,7 @@ use native.Mathlib.Omega.{arith}
 use lib.Dec.{leb}
 use lib.ListN.{length}
 use borrow.Author.Tests.{leb-false}
+use Rattle.laws.proofs.Tests.{not-both}
 use Rattle.refusal.specs.declared.Fault.the-variants.{Encoding, ShortBuffer}
 use Rattle.refusal.specs.Order.{_at_, _needing_, demand}
 use Rattle.coding.specs.Coding.{methodFits, coded}
@@ -22,16 +23,13 @@ use Rattle.node.specs.declared.NodeRead.the-variants as read
 use Rattle.pst.specs.Meaning.{refuses, verdictMeans, sizedMeans, dataMeans}
 use Rattle.pst.specs.Outcomes.{readOutcome, readBuffer, dataOutcome, dataBuffer, codeOutcome, encodeBuffer, decodeBuffer}
 
-no-refusal : false ≡ true → ⊥
-no-refusal e = let clash : _≡_ {A = ℕ} 0 1 = cc in omega arith
-
 checked-untouched : (image : List ℕ) (c : Checked) (out : List ℕ) → refuses (sizedMeans (readIn c (length out))) ≡ true → filledIn image c out ≡ out
 unfolding refuses sizedMeans readIn fitting filledIn
 checked-untouched image (checked.Block b) out e = by-length (leb (b .size) (length out)) e
   where
     by-length : (w : Bool) → refuses (sizedMeans (cond w (sized.Size (b .size)) (sized.Refused (ShortBuffer needing b .size)))) ≡ true
         → cond w (fronted (blockBytes image b) out) out ≡ out
-    by-length true h = absurd (no-refusal h)
+    by-length true h = not-both false h refl
     by-length false h = refl
 checked-untouched image (checked.Refused r) out e = refl
 
@@ -44,7 +42,7 @@ unfolding refuses dataMeans answerTo filledBy
 content-untouched (content.bytes s) out e = by-length (leb (length s) (length out)) e
   where
     by-length : (w : Bool) → refuses (dataMeans (cond w (read.Length (length s)) (read.Refused (ShortBuffer needing length s)))) ≡ true → cond w (fronted s out) out ≡ out
-    by-length true h = absurd (no-refusal h)
+    by-length true h = not-both false h refl
     by-length false h = refl
 content-untouched content.absent out e = refl
 content-untouched (content.refused r) out e = refl
@@ -58,7 +56,7 @@ unfolding refuses codeOutcome verdictMeans methodFits demand
 over-two method = by-test (leb method 2) refl
   where
     by-test : (w : Bool) → leb method 2 ≡ w → refuses (verdictMeans (demand w (Encoding at 0))) ≡ true → 2 < method
-    by-test true q e = absurd (no-refusal e)
+    by-test true q e = not-both false e refl
     by-test false q e = leb-false method 2 q
 
 coded-untouched : (f : ℕ → ℕ) (method block : ℕ) (bytes : List ℕ) → refuses (codeOutcome method) ≡ true → coded f method block bytes ≡ bytes

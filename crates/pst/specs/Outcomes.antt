@@ -9,6 +9,7 @@ use Rattle.page.specs.Layout.{nbt, bbt}
 use Rattle.page.specs.Page.{signature}
 use Rattle.tree.specs.Tree.{treeFits}
 use Rattle.tree.specs.Answers.{nodeOf, blockOf}
+use Rattle.tree.specs.Listing.{nextNodeOf, nextBlockOf}
 use Rattle.block.specs.Block.{room, testOf, readOf, filledOf}
 use Rattle.node.specs.Content.{nodeContent, answerTo, filledBy}
 use Rattle.heap.specs.Shape.{heapTest}
@@ -32,6 +33,13 @@ nodeOutcome image node = nodeMeans (nodeOf image node)
 
 unfoldable pub blockOutcome : List ℕ → ℕ → Meaning
 blockOutcome image block = blockMeans (blockOf image block)
+
+-- the listings, which go beyond document 01
+unfoldable pub nextNodeOutcome : List ℕ → ℕ → Meaning
+nextNodeOutcome image from = nodeMeans (nextNodeOf image from)
+
+unfoldable pub nextBlockOutcome : List ℕ → ℕ → Meaning
+nextBlockOutcome image from = blockMeans (nextBlockOf image from)
 
 -- 12 to 15 after what the lookup refuses
 unfoldable pub testOutcome : List ℕ → ℕ → Meaning

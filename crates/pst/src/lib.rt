@@ -9,7 +9,7 @@ use tree::FoundBlock;
 use tree::FoundNode;
 ghost use mathlib.Core.Path.{_≡_};
 ghost use Rattle.pst.specs.Meaning.{verdictMeans, headerMeans, nodeMeans, blockMeans, sizedMeans, dataMeans, spanMeans, propertyMeans};
-ghost use Rattle.pst.specs.Outcomes.{headerOutcome, nodesOutcome, blocksOutcome, nodeOutcome, blockOutcome, testOutcome, readOutcome, readBuffer, dataOutcome, dataBuffer, codeOutcome, encodeBuffer, decodeBuffer, heapOutcome, testItemOutcome, itemOutcome, spanOutcome, propertyOutcome, checksumOutcome, signatureOutcome, roomOutcome};
+ghost use Rattle.pst.specs.Outcomes.{headerOutcome, nodesOutcome, blocksOutcome, nodeOutcome, blockOutcome, nextNodeOutcome, nextBlockOutcome, testOutcome, readOutcome, readBuffer, dataOutcome, dataBuffer, codeOutcome, encodeBuffer, decodeBuffer, heapOutcome, testItemOutcome, itemOutcome, spanOutcome, propertyOutcome, checksumOutcome, signatureOutcome, roomOutcome};
 
 // What the header says.
 pub fn header(image: &[u8]) -> HeaderAnswer
@@ -44,6 +44,20 @@ pub fn find_block(image: &[u8], block: u64) -> FoundBlock
     ensures { λ r. ⌜ blockMeans r ≡ blockOutcome (now (image .entry)) block ⌝ }
 {
     tree::find_block(image, block)
+}
+
+// The first node whose number is at least `from`, by the low four bytes of both.
+pub fn next_node(image: &[u8], from: u64) -> FoundNode
+    ensures { λ r. ⌜ nodeMeans r ≡ nextNodeOutcome (now (image .entry)) from ⌝ }
+{
+    tree::next_node(image, from)
+}
+
+// The first block whose number is at least `from`.
+pub fn next_block(image: &[u8], from: u64) -> FoundBlock
+    ensures { λ r. ⌜ blockMeans r ≡ nextBlockOutcome (now (image .entry)) from ⌝ }
+{
+    tree::next_block(image, from)
 }
 
 // A block's size, after its tests.

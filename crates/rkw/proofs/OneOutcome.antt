@@ -15,6 +15,10 @@ use Rattle.rkw.proofs.rkw_find_node.Reads as find-node
 use Rattle.rkw.proofs.rkw_find_node.Kinds as find-node-kinds
 use Rattle.rkw.proofs.rkw_find_block.Reads as find-block
 use Rattle.rkw.proofs.rkw_find_block.Kinds as find-block-kinds
+use Rattle.rkw.proofs.rkw_next_node.Reads as next-node
+use Rattle.rkw.proofs.rkw_next_node.Kinds as next-node-kinds
+use Rattle.rkw.proofs.rkw_next_block.Reads as next-block
+use Rattle.rkw.proofs.rkw_next_block.Kinds as next-block-kinds
 use Rattle.rkw.proofs.rkw_test_block.Reads as test-block
 use Rattle.rkw.proofs.rkw_test_block.Kinds as test-block-kinds
 use Rattle.rkw.proofs.rkw_read_block.Reads as read-block
@@ -54,6 +58,12 @@ find-node-single κs a x y s t p q = p ∙ sym q
 
 find-block-single : Single 1 find-block-kinds.ps find-block-kinds.r find-block.Post
 find-block-single κs a x y s t p q = p ∙ sym q
+
+next-node-single : Single 1 next-node-kinds.ps next-node-kinds.r next-node.Post
+next-node-single κs a x y s t p q = p ∙ sym q
+
+next-block-single : Single 1 next-block-kinds.ps next-block-kinds.r next-block.Post
+next-block-single κs a x y s t p q = p ∙ sym q
 
 test-block-single : Single 1 test-block-kinds.ps test-block-kinds.r test-block.Post
 test-block-single κs a x y s t p q = p ∙ sym q

@@ -18,6 +18,7 @@ ghost use Rattle.page.specs.Layout.{nbt, bbt};
 ghost use Rattle.page.specs.Page.{signature};
 ghost use Rattle.tree.specs.Tree.{treeFits};
 ghost use Rattle.tree.specs.Answers.{nodeOf, blockOf};
+ghost use Rattle.tree.specs.Listing.{nextNodeOf, nextBlockOf};
 ghost use Rattle.block.specs.Block.{room, testOf, readOf, filledOf};
 ghost use Rattle.node.specs.Content.{nodeContent, answerTo, filledBy};
 ghost use Rattle.heap.specs.Shape.{heapTest};
@@ -401,6 +402,20 @@ pub extern "C" fn rkw_find_block(image: &[u8], block: u64) -> RkwBlock
     ensures { λ r. ⌜ r ≡ blockAnswer (blockOf (now (image .entry)) block) ⌝ }
 {
     block_answer(pst::find_block(image, block))
+}
+
+#[no_mangle]
+pub extern "C" fn rkw_next_node(image: &[u8], from: u64) -> RkwNode
+    ensures { λ r. ⌜ r ≡ nodeAnswer (nextNodeOf (now (image .entry)) from) ⌝ }
+{
+    node_answer(pst::next_node(image, from))
+}
+
+#[no_mangle]
+pub extern "C" fn rkw_next_block(image: &[u8], from: u64) -> RkwBlock
+    ensures { λ r. ⌜ r ≡ blockAnswer (nextBlockOf (now (image .entry)) from) ⌝ }
+{
+    block_answer(pst::next_block(image, from))
 }
 
 #[no_mangle]
