@@ -121,6 +121,61 @@ fn block_lines(image: &[u8]) {
     }
 }
 
+// Where a listing goes on: one above the number found; 0 where none stands above it.
+fn above(number: u64) -> u64 {
+    if number == 0xFFFF_FFFF_FFFF_FFFF {
+        return 0;
+    }
+    number + 1
+}
+
+fn next_node_line(image: &[u8], from: u64) -> u64 {
+    answers::say_hex(b"mini next_node ", from);
+    text::say(b": ");
+    let found = tree::next_node(image, from);
+    say_node(found);
+    let FoundNode::Found(n, pages) = found else {
+        return 0;
+    };
+    above(n.node)
+}
+
+fn next_block_line(image: &[u8], from: u64) -> u64 {
+    answers::say_hex(b"mini next_block ", from);
+    text::say(b": ");
+    let found = tree::next_block(image, from);
+    say_block(found);
+    let FoundBlock::Found(b, pages) = found else {
+        return 0;
+    };
+    above(b.block)
+}
+
+// Two leaves hold at most 40 entries.
+fn list_nodes(image: &[u8]) {
+    let mut from: u64 = 0;
+    let mut left: usize = 40;
+    while left > 0 {
+        from = next_node_line(image, from);
+        if from == 0 {
+            return;
+        }
+        left -= 1;
+    }
+}
+
+fn list_blocks(image: &[u8]) {
+    let mut from: u64 = 0;
+    let mut left: usize = 40;
+    while left > 0 {
+        from = next_block_line(image, from);
+        if from == 0 {
+            return;
+        }
+        left -= 1;
+    }
+}
+
 fn tree_lines(image: &[u8]) {
     pages::header_line(b"mini", image);
     text::say(b"mini check_nodes: ");
@@ -129,6 +184,8 @@ fn tree_lines(image: &[u8]) {
     answers::say_verdict(tree::check_blocks(image));
     node_lines(image);
     block_lines(image);
+    list_nodes(image);
+    list_blocks(image);
 }
 
 pub fn real_pages() {
