@@ -11,5 +11,8 @@ fn main() {
         .unwrap_or_else(|| here.join("../../target/staticlib"));
     println!("cargo:rustc-link-search=native={}", folder.display());
     println!("cargo:rustc-link-lib=static=rkw");
-    println!("cargo:rerun-if-changed={}", folder.join("librkw.a").display());
+    println!(
+        "cargo:rerun-if-changed={}",
+        folder.join("librkw.a").display()
+    );
 }

@@ -100,7 +100,8 @@ impl<'a> Tested<'a> {
 /// The bytes from the block's first to its trailer's last, where 13 does not apply.
 fn room_in<'a>(image: &'a [u8], listed: &Block) -> Option<&'a [u8]> {
     let Block { offset, size, .. } = *listed;
-    let allowed = (1..=MOST_SIZE).contains(&size) && offset % STEP == 0 && offset >= FIRST_OFFSET;
+    let allowed =
+        (1..=MOST_SIZE).contains(&size) && offset.is_multiple_of(STEP) && offset >= FIRST_OFFSET;
     let end = offset.checked_add(room(u32::from(size)))?;
     if allowed && end <= image.len() as u64 {
         Some(&image[offset as usize..end as usize])

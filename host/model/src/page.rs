@@ -154,7 +154,7 @@ fn offset_allowed(image: &[u8], offset: u64) -> bool {
     let inside = offset
         .checked_add(PAGE as u64)
         .is_some_and(|end| end <= image.len() as u64);
-    offset % STEP == 0 && offset >= FIRST_OFFSET && inside
+    offset.is_multiple_of(STEP) && offset >= FIRST_OFFSET && inside
 }
 
 fn is_numbered(bytes: &[u8], reference: Reference) -> bool {

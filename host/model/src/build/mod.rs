@@ -42,6 +42,8 @@ pub struct Plan {
     pub index_levels: u8,
     pub most_size: usize,
     pub most_children: usize,
+    /// Every data tree names one block of the largest size, as often as it can.
+    pub one_child: bool,
     /// Blocks that no node names.
     pub spare_blocks: usize,
     /// Full pages, ascending numbers, no gaps and no stale bytes.
@@ -133,6 +135,7 @@ fn small_plan(random: &mut Random) -> Plan {
         index_levels: random.below(4) as u8,
         most_size: random.one_of([1, 49, 200, 200, 1200, usize::from(MOST_SIZE)]),
         most_children: random.one_of([1, 3, 3, 8]),
+        one_child: false,
         spare_blocks: random.below(most),
         tidy: random.one_in(6),
     }
@@ -182,8 +185,9 @@ impl<'a> Builder<'a> {
     /// A block of random bytes: its number and size.
     fn place_block(&mut self) -> (u64, u32) {
         let random = &mut self.space.random;
-        let most = self.plan.most_size;
+        let most = self.plan.most_size.clamp(1, usize::from(MOST_SIZE));
         let size = match random.below(6) {
+            _ if self.plan.one_child => most,
             0 => most,
             1 => most.min(48),
             _ => random.between(1, most),
@@ -195,7 +199,10 @@ impl<'a> Builder<'a> {
     /// A data tree; one child is named twice now and then.
     fn place_tree(&mut self) -> u64 {
         let most = self.plan.most_children.clamp(1, MOST_CHILDREN);
-        let count = if self.plan.tidy {
+        let Plan {
+            tidy, one_child, ..
+        } = *self.plan;
+        let count = if tidy || one_child {
             most
         } else {
             self.space.random.between(1, most)
@@ -205,7 +212,7 @@ impl<'a> Builder<'a> {
         for _ in 0..count {
             children.push(child.0);
             sum += child.1;
-            let again = !self.plan.tidy && self.space.random.one_in(3);
+            let again = one_child || (!tidy && self.space.random.one_in(3));
             if !again && children.len() < count {
                 child = self.place_block();
             }
