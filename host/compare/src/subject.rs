@@ -2,7 +2,7 @@
 //! numbers worth asking for.
 
 use crate::ask::{Call, ON_BYTES, ON_HEAP, ON_IMAGE};
-use model::build::heaps::{bare_heap, property_context, HeapPlan, PlacedHeap};
+use model::build::heaps::{bare_heap, empty_items, property_context, HeapPlan, PlacedHeap};
 use model::build::seal::seal_header;
 use model::build::{build, build_small, Built, Plan, MOST_SMALL};
 use model::damage::heap::{spoil_heap, ALL};
@@ -34,7 +34,7 @@ impl Subject {
             blocks: Vec::new(),
             items: Vec::new(),
             ids: Vec::new(),
-            asks: 12,
+            asks: 8,
         }
     }
 }
@@ -62,7 +62,7 @@ fn built_images(random: &mut Random) -> Vec<Subject> {
         blocks: built.blocks.iter().map(|block| block.number).collect(),
         ..Subject::new("built".into(), built.image.clone(), ON_IMAGE)
     };
-    let damaged: Vec<_> = (0..8).map(|_| damaged_image(&built, random)).collect();
+    let damaged: Vec<_> = (0..12).map(|_| damaged_image(&built, random)).collect();
     std::iter::once(whole).chain(damaged).collect()
 }
 
@@ -146,6 +146,10 @@ pub fn widest_image(seed: u64) -> Subject {
 }
 
 fn heap(random: &mut Random) -> PlacedHeap {
+    if random.one_in(12) {
+        let items = random.one_of([0, 1, 2046, 2047, 2048, 2049]);
+        return empty_items(random, items);
+    }
     if random.one_in(6) {
         let items = match random.below(8) {
             0 => 0,

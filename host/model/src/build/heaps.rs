@@ -34,10 +34,21 @@ pub struct PlacedHeap {
     pub properties: BTreeMap<u16, Property>,
 }
 
+/// A property to be placed.
+#[derive(Clone, Debug)]
+pub enum Given {
+    Number(u32),
+    Empty,
+    Bytes(Vec<u8>),
+    Subnode(u32),
+}
+
 /// A property context of at most 8,176 bytes; too large a plan is cut down.
 pub fn property_context(random: &mut Random, mut plan: HeapPlan) -> PlacedHeap {
     loop {
-        let heap = Filler::new(random, plan).finish();
+        let mut filler = Filler::new(random, plan);
+        let properties = filler.any_properties();
+        let heap = filler.finish(properties);
         if heap.block.len() <= 8176 {
             return heap;
         }
@@ -46,12 +57,42 @@ pub fn property_context(random: &mut Random, mut plan: HeapPlan) -> PlacedHeap {
     }
 }
 
+/// A tidy context of those properties: id, type and value.
+pub fn given_properties(random: &mut Random, given: Vec<(u16, u16, Given)>) -> PlacedHeap {
+    let plan = HeapPlan {
+        index_levels: 0,
+        properties: given.len(),
+        most_value: 0,
+        tidy: true,
+    };
+    let mut filler = Filler::new(random, plan);
+    let place = |(id, kind, given)| {
+        let value = filler.value(given);
+        (id, Property { kind, value })
+    };
+    let properties = given.into_iter().map(place).collect();
+    filler.finish(properties)
+}
+
 /// A heap of a few items and any client kind but that of properties.
 pub fn bare_heap(random: &mut Random, items: usize) -> PlacedHeap {
-    let items = (0..items).map(|_| small_item(random)).collect();
+    let items: Vec<_> = (0..items).map(|_| small_item(random)).collect();
     let kind = random.byte() & 0x7F;
     let user_root = random.number() as u32;
     let block = lay_out(random, &items, kind, user_root, false);
+    PlacedHeap {
+        block,
+        items,
+        user_root: 0,
+        tree: Vec::new(),
+        properties: BTreeMap::new(),
+    }
+}
+
+/// A heap of nothing but empty items.
+pub fn empty_items(random: &mut Random, items: usize) -> PlacedHeap {
+    let items = vec![Vec::new(); items];
+    let block = lay_out(random, &items, PROPERTIES, 32, true);
     PlacedHeap {
         block,
         items,
@@ -70,6 +111,7 @@ struct Filler<'a> {
     random: &'a mut Random,
     plan: HeapPlan,
     items: Vec<Vec<u8>>,
+    user_root: u32,
     tree: Vec<TreeItem>,
 }
 
@@ -77,12 +119,15 @@ impl<'a> Filler<'a> {
     fn new(random: &'a mut Random, plan: HeapPlan) -> Self {
         let before = if plan.tidy { 0 } else { random.below(3) };
         let items = (0..before).map(|_| small_item(random)).collect();
-        Self {
+        let mut filler = Self {
             random,
             plan,
             items,
+            user_root: 0,
             tree: Vec::new(),
-        }
+        };
+        filler.user_root = filler.add(Vec::new());
+        filler
     }
 
     fn add(&mut self, item: Vec<u8>) -> u32 {
@@ -90,9 +135,8 @@ impl<'a> Filler<'a> {
         (self.items.len() as u32) << 5
     }
 
-    fn finish(mut self) -> PlacedHeap {
-        let user_root = self.add(Vec::new());
-        let properties = self.properties();
+    fn finish(mut self, properties: BTreeMap<u16, Property>) -> PlacedHeap {
+        let user_root = self.user_root;
         let records: Vec<_> = properties
             .iter()
             .map(|(&id, property)| leaf_record(id, *property))
@@ -121,7 +165,7 @@ impl<'a> Filler<'a> {
         }
     }
 
-    fn properties(&mut self) -> BTreeMap<u16, Property> {
+    fn any_properties(&mut self) -> BTreeMap<u16, Property> {
         let mut properties = BTreeMap::new();
         while properties.len() < self.plan.properties {
             let id = match self.random.below(4) {
@@ -142,18 +186,27 @@ impl<'a> Filler<'a> {
             .random
             .one_of([0x1F, 0x102, 0x14, 0x40, 5, 0x48, 0x101F]);
         let number = self.random.number() as u32;
-        let (kind, value) = match self.random.below(6) {
-            0 | 1 => (in_place, Value::Number(number)),
-            2 => (in_place, Value::Number(number & 0xFF)),
-            3 => (other, Value::Empty),
-            4 => (other, Value::Subnode(number | 1)),
+        let (kind, given) = match self.random.below(6) {
+            0 | 1 => (in_place, Given::Number(number)),
+            2 => (in_place, Given::Number(number & 0xFF)),
+            3 => (other, Given::Empty),
+            4 => (other, Given::Subnode(number | 1)),
             _ => {
                 let length = self.random.below(self.plan.most_value + 1);
-                let value = self.random.bytes(length);
-                (other, Value::Item(self.add(value)))
+                (other, Given::Bytes(self.random.bytes(length)))
             }
         };
+        let value = self.value(given);
         Property { kind, value }
+    }
+
+    fn value(&mut self, given: Given) -> Value {
+        match given {
+            Given::Number(number) => Value::Number(number),
+            Given::Empty => Value::Empty,
+            Given::Bytes(bytes) => Value::Item(self.add(bytes)),
+            Given::Subnode(number) => Value::Subnode(number),
+        }
     }
 
     /// Adds the items of a tree over the records and answers the number of its root. `low` is where
@@ -208,7 +261,7 @@ fn leaf_record(id: u16, property: Property) -> (u16, Vec<u8>) {
 
 fn lay_out(
     random: &mut Random,
-    items: &Vec<Vec<u8>>,
+    items: &[Vec<u8>],
     kind: u8,
     user_root: u32,
     tidy: bool,

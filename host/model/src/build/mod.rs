@@ -3,6 +3,7 @@
 
 mod blocks;
 pub mod heaps;
+pub mod office;
 mod pages;
 pub mod seal;
 mod space;
@@ -55,6 +56,7 @@ pub struct PlacedPage {
     pub tree: Tree,
     pub offset: usize,
     pub level: u8,
+    pub is_root: bool,
     pub keys: Vec<u64>,
 }
 
@@ -217,6 +219,10 @@ impl<'a> Builder<'a> {
                 child = self.place_block();
             }
         }
+        self.place_tree_over(children, sum)
+    }
+
+    fn place_tree_over(&mut self, children: Vec<u64>, sum: u32) -> u64 {
         let number = self.blocks.place_tree(&mut self.space, &children, sum);
         self.trees.insert(number, children);
         number
@@ -230,13 +236,16 @@ impl<'a> Builder<'a> {
             tidy: self.plan.tidy,
         };
         let heap = property_context(&mut self.space.random, plan);
-        let data = self
-            .blocks
-            .place(&mut self.space, heap.block.clone(), false);
+        let data = self.place_data(heap.block.clone());
         let node = self.place_node(data);
         self.heaps.insert(node, heap);
     }
 
+    fn place_data(&mut self, data: Vec<u8>) -> u64 {
+        self.blocks.place(&mut self.space, data, false)
+    }
+
+    /// Lists a node of a number not yet taken.
     fn place_node(&mut self, data: u64) -> u32 {
         let tidy = self.plan.tidy;
         let random = &mut self.space.random;
@@ -256,14 +265,17 @@ impl<'a> Builder<'a> {
             random.number() >> random.below(64)
         };
         let parent = if tidy { 0x122 } else { random.number() as u32 };
-        let entry = Node {
+        self.list_node(Node {
             node,
             data,
             subnode,
             parent,
-        };
-        self.nodes.insert(node, entry);
+        });
         node
+    }
+
+    fn list_node(&mut self, node: Node) {
+        self.nodes.insert(node.node, node);
     }
 
     fn finish(mut self) -> Built {
@@ -300,7 +312,11 @@ impl<'a> Builder<'a> {
         let level = if entries.is_empty() { 0 } else { level };
         let level = level.max(least_level(tree, entries.len()));
         let space = &mut self.space;
-        Grower { space, tree, pages }.grow(entries, level, 0)
+        let root = Grower { space, tree, pages }.grow(entries, level, 0);
+        if let Some(page) = pages.last_mut() {
+            page.is_root = true;
+        }
+        root
     }
 }
 

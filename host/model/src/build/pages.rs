@@ -123,6 +123,7 @@ impl Grower<'_> {
             tree: self.tree,
             offset,
             level,
+            is_root: false,
             keys: entries.iter().map(|entry| entry.key).collect(),
         });
         Reference {

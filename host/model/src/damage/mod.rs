@@ -215,7 +215,7 @@ impl<'a> Spoiler<'a> {
     fn odd_offset(&mut self, now: u64) -> u64 {
         let length = self.image.len() as u64;
         match self.random.below(10) {
-            0 => now.wrapping_add(1),
+            0 => now.wrapping_add(1 << self.random.below(6)),
             1 => now.wrapping_add(64),
             2 => now.wrapping_sub(64),
             3 => 0x43C0,

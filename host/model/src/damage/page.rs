@@ -45,7 +45,15 @@ impl<'a> Spoiler<'a> {
             Damage::KeyLow | Damage::KeyHigh | Damage::KeyUpperHalf => !page.keys.is_empty(),
             _ => true,
         };
-        let pages: Vec<_> = self.built.pages.iter().filter(fits).collect();
+        let roots_only = self.random.one_in(4);
+        let chosen = |page: &&PlacedPage| !roots_only || page.is_root;
+        let pages: Vec<_> = self
+            .built
+            .pages
+            .iter()
+            .filter(fits)
+            .filter(chosen)
+            .collect();
         self.random.pick(&pages).copied()
     }
 
@@ -71,14 +79,14 @@ impl<'a> Spoiler<'a> {
             Damage::PageCount => (488, [0, 1, 15, 16, 20, 21]),
             Damage::PageRoom => (489, [0, 1, 15, 16, 20, 21]),
             Damage::EntrySize => (490, [24, 32, 0, 16, 23, 31]),
-            _ => (491, [0, 1, 6, 7, 8, 0x80]),
+            _ => (491, [0, 1, 6, 7, 8, 8]),
         };
         let now = self.image[offset + at];
         self.image[offset + at] = match self.random.below(4) {
             0 => now.wrapping_add(1),
             1 => now.wrapping_sub(1),
-            2 => self.random.one_of(edges),
-            _ => self.random.byte(),
+            2 => self.random.byte(),
+            _ => self.random.one_of(edges),
         };
     }
 
