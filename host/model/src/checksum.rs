@@ -22,7 +22,12 @@ const fn table() -> [u32; 256] {
 
 /// Start 0, no inversion at either end.
 pub fn checksum(bytes: &[u8]) -> u32 {
-    bytes.iter().fold(0, |sum, &byte| {
+    extend(0, bytes)
+}
+
+/// The checksum of some bytes and those that follow them, from the checksum of the former.
+pub fn extend(sum: u32, bytes: &[u8]) -> u32 {
+    bytes.iter().fold(sum, |sum, &byte| {
         (sum >> 8) ^ TABLE[usize::from(sum as u8 ^ byte)]
     })
 }

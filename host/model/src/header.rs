@@ -1,7 +1,7 @@
 //! The header (01, Header; 003, 2.2.2.5 and 2.2.2.6).
 
 use crate::bytes::{u16_at, u32_at, u64_at};
-use crate::checksum::checksum;
+use crate::checksum::{checksum, extend};
 use crate::coding::CYCLIC;
 use crate::refusal::{demand, Answer};
 
@@ -31,8 +31,10 @@ pub fn header(image: &[u8]) -> Answer<Header> {
     demand(image[0..4] == MAGIC, 2, 0)?;
     demand(image[8..10] == CLIENT_MAGIC, 2, 8)?;
     demand(u16_at(image, 10) == VERSION, 3, 10)?;
-    demand(u32_at(image, 4) == checksum(&image[8..8 + 471]), 4, 4)?;
-    demand(u32_at(image, 524) == checksum(&image[8..8 + 516]), 4, 524)?;
+    let partial = checksum(&image[8..8 + 471]);
+    demand(u32_at(image, 4) == partial, 4, 4)?;
+    let full = extend(partial, &image[8 + 471..8 + 516]);
+    demand(u32_at(image, 524) == full, 4, 524)?;
     demand(image[512] == SENTINEL, 5, 512)?;
     demand(image[513] <= CYCLIC, 5, 513)?;
     Ok(Header {

@@ -31,7 +31,6 @@ const MOST_ASKED: usize = 6;
 
 /// Refusal, kind of damage, sealed.
 const DAMAGED: &[(u64, Damage, bool)] = &[
-    (1, Damage::Cut, false),
     (2, Damage::Magic, true),
     (2, Damage::ClientMagic, true),
     (3, Damage::Version, true),
@@ -65,6 +64,7 @@ const DAMAGED_HEAPS: &[(u64, HeapDamage)] = &[
 
 pub fn images() -> Vec<Image> {
     let mut images = valid();
+    images.push(short_image());
     images.extend(
         DAMAGED
             .iter()
@@ -168,7 +168,7 @@ fn damaged(number: u64, damage: Damage, sealed: bool) -> Image {
     let blocks: Vec<_> = built.blocks.iter().map(|block| block.number).collect();
     let tries = (0..).map(|seed| {
         let mut spoilt = spoil(&built, damage, sealed, &mut Random::new(seed));
-        if (2..=5).contains(&number) {
+        if number <= 5 {
             spoilt.image.truncate(LEAST_IMAGE);
         }
         let mut image = image_of(&name, spoilt.image, &built);
@@ -177,6 +177,15 @@ fn damaged(number: u64, damage: Damage, sealed: bool) -> Image {
         image
     });
     first_refusing(tries, number)
+}
+
+fn short_image() -> Image {
+    let built = build(1, &base(NONE, 0, 0));
+    image_of(
+        "refusal-1-short",
+        built.image[..LEAST_IMAGE - 1].to_vec(),
+        &built,
+    )
 }
 
 fn short_buffer() -> Image {

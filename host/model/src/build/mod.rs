@@ -8,10 +8,9 @@ mod pages;
 pub mod seal;
 mod space;
 
-use crate::block::MOST_SIZE;
 use crate::bytes::put;
 use crate::header::{Reference, CLIENT_MAGIC, MAGIC, SENTINEL, VERSION};
-use crate::node::{Node, MOST_CHILDREN};
+use crate::node::Node;
 use crate::page::Tree;
 use crate::random::Random;
 use blocks::Blocks;
@@ -23,6 +22,10 @@ use std::collections::BTreeMap;
 
 /// The most bytes of an image that the programs work on.
 pub const MOST_SMALL: usize = 65_536;
+
+/// The reader's bounds, said here once more: a slip there must not change what is built.
+const MOST_SIZE: usize = 8176;
+const MOST_CHILDREN: usize = 1021;
 
 /// What an image is to hold.
 #[derive(Clone, Copy, Debug, Default)]
@@ -135,7 +138,7 @@ fn small_plan(random: &mut Random) -> Plan {
         property_nodes: random.below(3),
         properties: random.below(40),
         index_levels: random.below(4) as u8,
-        most_size: random.one_of([1, 49, 200, 200, 1200, usize::from(MOST_SIZE)]),
+        most_size: random.one_of([1, 49, 200, 200, 1200, MOST_SIZE]),
         most_children: random.one_of([1, 3, 3, 8]),
         one_child: false,
         spare_blocks: random.below(most),
@@ -187,7 +190,7 @@ impl<'a> Builder<'a> {
     /// A block of random bytes: its number and size.
     fn place_block(&mut self) -> (u64, u32) {
         let random = &mut self.space.random;
-        let most = self.plan.most_size.clamp(1, usize::from(MOST_SIZE));
+        let most = self.plan.most_size.clamp(1, MOST_SIZE);
         let size = match random.below(6) {
             _ if self.plan.one_child => most,
             0 => most,

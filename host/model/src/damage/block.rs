@@ -1,6 +1,7 @@
 //! Damage to a block, to its listing in the BBT, or to a data tree.
 
 use super::{Damage, Spoiler};
+use crate::block::room;
 use crate::build::seal::{seal_block, seal_page, trailer_at};
 use crate::build::PlacedBlock;
 use crate::bytes::{put, u64_at};
@@ -22,6 +23,7 @@ impl<'a> Spoiler<'a> {
                 let size = self.random.between(1, usize::from(block.size).min(9));
                 self.resize(block, size as u16);
             }
+            Damage::MoveToEnd => self.move_to_end(block),
             Damage::TrailerSize => self.trailer(block, 0, 2),
             Damage::TrailerSignature => self.trailer(block, 2, 4),
             Damage::TrailerSum => self.trailer(block, 4, 8),
@@ -103,6 +105,24 @@ impl<'a> Spoiler<'a> {
         seal_page(&mut self.image, page);
         if self.sealed {
             seal_block(&mut self.image, block.offset, size, block.number);
+        }
+    }
+
+    /// The block so that its room ends with the image; unsealed, one byte of the room is cut off.
+    fn move_to_end(&mut self, block: &PlacedBlock) {
+        let Some((page, entry)) = self.listing(block.number) else {
+            return;
+        };
+        let offset = self.image.len().next_multiple_of(64);
+        let end = offset + room(u32::from(block.size)) as usize;
+        self.image.resize(end, 0);
+        let stored = block.offset..block.offset + usize::from(block.size);
+        self.image.copy_within(stored, offset);
+        seal_block(&mut self.image, offset, block.size, block.number);
+        put(&mut self.image, entry + 8, &(offset as u64).to_le_bytes());
+        seal_page(&mut self.image, page);
+        if !self.sealed {
+            self.image.truncate(end - 1);
         }
     }
 
