@@ -13,6 +13,11 @@ fn fields<T, const N: usize>(answer: Answer<T>, fill: impl FnOnce(T, &mut [u64])
     fields
 }
 
+/// A number alone, which no refusal can take the place of.
+pub fn number(number: impl Into<u64>) -> [u64; 1] {
+    [number.into()]
+}
+
 pub fn plain(answer: Answer<()>) -> [u64; 3] {
     fields(answer, |(), _| {})
 }

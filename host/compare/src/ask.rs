@@ -126,10 +126,6 @@ fn both<const N: usize>(proved: [u64; N], model: [u64; N]) -> Answers {
     }
 }
 
-fn numbers(proved: u64, model: u64) -> Answers {
-    both([proved], [model])
-}
-
 /// Bytes that surround a buffer, so that a write beside it shows.
 pub const GUARD: usize = 64;
 
@@ -204,62 +200,35 @@ fn code(ask: &Ask, buffers: &mut Buffers) -> Answers {
     }
 }
 
+/// The same call of both, its answer as the fields of that shape.
+macro_rules! put_to_both {
+    ($call:ident as $shape:ident, $lent:expr, $own:expr $(, $argument:expr)*) => {
+        both(
+            proved::$call($lent $(, $argument)*),
+            answers::$shape(model::$call($own $(, $argument)*)),
+        )
+    };
+}
+
 fn look(ask: &Ask, lent: &[u8], own: &[u8]) -> Answers {
     let number = ask.number;
-    let (item, id) = (number as u32, number as u16);
     match ask.call {
-        Call::Header => both(proved::header(lent), answers::header(model::header(own))),
-        Call::CheckNodes => both(
-            proved::check_nodes(lent),
-            answers::plain(model::check_nodes(own)),
-        ),
-        Call::CheckBlocks => both(
-            proved::check_blocks(lent),
-            answers::plain(model::check_blocks(own)),
-        ),
-        Call::FindNode => both(
-            proved::find_node(lent, number),
-            answers::node(model::find_node(own, number)),
-        ),
-        Call::FindBlock => both(
-            proved::find_block(lent, number),
-            answers::block(model::find_block(own, number)),
-        ),
+        Call::Header => put_to_both!(header as header, lent, own),
+        Call::CheckNodes => put_to_both!(check_nodes as plain, lent, own),
+        Call::CheckBlocks => put_to_both!(check_blocks as plain, lent, own),
+        Call::FindNode => put_to_both!(find_node as node, lent, own, number),
+        Call::FindBlock => put_to_both!(find_block as block, lent, own, number),
         #[cfg(feature = "listing")]
-        Call::NextNode => both(
-            proved::next_node(lent, number),
-            answers::node(model::next_node(own, number)),
-        ),
+        Call::NextNode => put_to_both!(next_node as node, lent, own, number),
         #[cfg(feature = "listing")]
-        Call::NextBlock => both(
-            proved::next_block(lent, number),
-            answers::block(model::next_block(own, number)),
-        ),
-        Call::TestBlock => both(
-            proved::test_block(lent, number),
-            answers::size(model::test_block(own, number)),
-        ),
-        Call::TestHeap => both(
-            proved::test_heap(lent),
-            answers::plain(model::test_heap(own)),
-        ),
-        Call::TestItem => both(
-            proved::test_item(lent, item),
-            answers::plain(model::test_item(own, item)),
-        ),
-        Call::Item => both(
-            proved::item(lent, item),
-            answers::item(model::item(own, item)),
-        ),
-        Call::FindProperty => both(
-            proved::find_property(lent, id),
-            answers::property(model::find_property(own, id)),
-        ),
-        Call::Signature => {
-            let model = model::signature(ask.offset, number);
-            numbers(proved::signature(ask.offset, number), u64::from(model))
-        }
-        Call::Room => numbers(proved::room(item), model::room(item)),
-        _ => numbers(proved::checksum(lent), u64::from(model::checksum(own))),
+        Call::NextBlock => put_to_both!(next_block as block, lent, own, number),
+        Call::TestBlock => put_to_both!(test_block as size, lent, own, number),
+        Call::TestHeap => put_to_both!(test_heap as plain, lent, own),
+        Call::TestItem => put_to_both!(test_item as plain, lent, own, number as u32),
+        Call::Item => put_to_both!(item as item, lent, own, number as u32),
+        Call::FindProperty => put_to_both!(find_property as property, lent, own, number as u16),
+        Call::Signature => put_to_both!(signature as number, ask.offset, ask.offset, number),
+        Call::Room => put_to_both!(room as number, number as u32, number as u32),
+        _ => put_to_both!(checksum as number, lent, own),
     }
 }

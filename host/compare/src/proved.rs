@@ -119,14 +119,14 @@ pub fn find_property(block: &[u8], id: u16) -> [u64; 7] {
     unsafe { sys::rkw_find_property(block.as_ptr(), block.len(), id) }.0
 }
 
-pub fn checksum(bytes: &[u8]) -> u64 {
-    unsafe { sys::rkw_checksum(bytes.as_ptr(), bytes.len()) }
+pub fn checksum(bytes: &[u8]) -> [u64; 1] {
+    [unsafe { sys::rkw_checksum(bytes.as_ptr(), bytes.len()) }]
 }
 
-pub fn signature(offset: u64, number: u64) -> u64 {
-    unsafe { sys::rkw_signature(offset, number) }
+pub fn signature(offset: u64, number: u64) -> [u64; 1] {
+    [unsafe { sys::rkw_signature(offset, number) }]
 }
 
-pub fn room(size: u32) -> u64 {
-    unsafe { sys::rkw_room(size) }
+pub fn room(size: u32) -> [u64; 1] {
+    [unsafe { sys::rkw_room(size) }]
 }
