@@ -1,0 +1,20 @@
+//! Every call in the proved library and in the model, side by side.
+
+use bench::cases;
+use criterion::{criterion_group, criterion_main, Criterion};
+
+fn calls(criterion: &mut Criterion) {
+    for mut case in cases() {
+        let mut group = criterion.benchmark_group(format!("{}, {}", case.call, case.input));
+        group.bench_function("proved", |bencher| bencher.iter(&mut case.proved));
+        group.bench_function("model", |bencher| bencher.iter(&mut case.model));
+        group.finish();
+    }
+}
+
+criterion_group! {
+    name = benches;
+    config = Criterion::default().sample_size(20);
+    targets = calls
+}
+criterion_main!(benches);
