@@ -59,7 +59,7 @@ impl<'a> Heap<'a> {
             _ => Value::Subnode(number),
         };
         Ok((answer.found == 1).then_some(Property {
-            type_code: answer.kind_of_type as u16,
+            type_code: answer.type_code as u16,
             value,
         }))
     }

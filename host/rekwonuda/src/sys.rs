@@ -37,7 +37,7 @@ answers! {
     LengthAnswer { length }
     DataAnswer { found, length }
     ItemAnswer { start, length }
-    PropertyAnswer { found, kind_of_type, kind, value }
+    PropertyAnswer { found, type_code, kind, value }
 }
 
 extern "C" {

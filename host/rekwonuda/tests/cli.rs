@@ -1,12 +1,14 @@
 //! The command line on sound and on damaged files: its texts, its JSON and its exit status.
 
-mod common;
+mod images;
+mod runs;
 
-use common::{command, file, run, sample, sound, Run};
+use images::{sample, sound};
 use model::build::seal::seal_header;
 use model::build::Built;
 use model::page::Tree;
 use model::{Node, Value as PropertyValue};
+use runs::{command, file, run, Run};
 use serde_json::{json, Value};
 use std::fs::{self, File};
 use std::io::Read;
@@ -250,11 +252,7 @@ fn a_file_that_is_too_long_is_refused_with_its_true_size() {
     let run = run(&["check"], &path, &[]);
     fs::remove_file(&path).unwrap();
     assert_eq!(run.status, 1);
-    assert!(
-        run.says("whole file: 1,073,741,829 bytes"),
-        "{}",
-        run.text
-    );
+    assert!(run.says("whole file: 1,073,741,829 bytes"), "{}", run.text);
     assert!(run.says("takes files of up to 1 GiB"));
 }
 

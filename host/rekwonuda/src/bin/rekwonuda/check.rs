@@ -44,7 +44,7 @@ impl Check<'_> {
         self.stage("block tree", Check::block_tree)?;
         self.stage("blocks", Check::blocks)?;
         self.out
-            .line("\naccepted: every page and every block of the file is sound")
+            .line("\naccepted: the header, both trees and every listed block are sound")
     }
 
     fn stage(
@@ -71,7 +71,7 @@ impl Check<'_> {
     }
 
     fn header(&mut self) -> Result<Finding, Failure> {
-        let header = self.source.image().header().at(Spot::NodeTree)?;
+        let header = self.source.image().header().at(Spot::Header)?;
         let method = method_name(header.method);
         Ok(Finding {
             text: format!("method {method}"),

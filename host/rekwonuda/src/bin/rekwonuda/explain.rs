@@ -40,8 +40,10 @@ const NO_PROPERTIES: &str = "Not every node holds properties: tables and queues 
 const SEVERAL_BLOCKS: &str = "The heap of this node is of several blocks, and this edition reads \
     heaps of one block. That is no fault of the file; the command `node` writes the data out as it is.";
 
-/// The part of the file that a call was about. What the header refuses has its own place.
+/// The part of the file that a call was about. What is wrong with the header is told by its place, from
+/// whichever call it comes.
 pub enum Spot {
+    Header,
     NodeTree,
     BlockTree,
     Block(Block),
@@ -178,7 +180,7 @@ fn in_blocks(source: &Source, refusal: &Refusal, spot: &Spot) -> String {
     match spot {
         Spot::Block(block) => listed_block(source, refusal, block),
         Spot::Data(node) | Spot::Heap(node, _) => block_of_node(refusal, node),
-        Spot::NodeTree | Spot::BlockTree => place(refusal.place),
+        _ => place(refusal.place),
     }
 }
 

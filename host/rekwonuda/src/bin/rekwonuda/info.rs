@@ -12,7 +12,7 @@ pub fn info(source: &Source, out: &mut Output) -> Result<(), Failure> {
     out.fact("size", source.size);
     out.line(format!("file         {}", source.name))?;
     out.line(format!("size         {}", counted(source.size, "byte")))?;
-    let header = source.image().header().at(Spot::NodeTree)?;
+    let header = source.image().header().at(Spot::Header)?;
     let method = method_name(header.method);
     out.fact("method", method);
     out.fact("node_root", reference(&header.nodes));

@@ -9,7 +9,7 @@ use serde_json::{json, Value};
 pub fn nodes(source: &Source, out: &mut Output) -> Result<(), Failure> {
     out.begin_list();
     out.line(format!(
-        "{:>10}  {:<28}{:>10}  {:>14}  {:>14}",
+        "{:>10}  {:<28}{:>10}  {:>18}  {:>18}",
         "node", "type", "parent", "data", "subnode"
     ))?;
     for node in source.image().nodes() {
@@ -26,7 +26,7 @@ pub fn nodes(source: &Source, out: &mut Output) -> Result<(), Failure> {
 pub fn blocks(source: &Source, out: &mut Output) -> Result<(), Failure> {
     out.begin_list();
     out.line(format!(
-        "{:>14}  {:<10}{:>12}  {:>6}  {:>10}",
+        "{:>18}  {:<8}  {:>18}  {:>6}  {:>10}",
         "block", "kind", "offset", "size", "references"
     ))?;
     for block in source.image().blocks() {
@@ -41,7 +41,7 @@ pub fn blocks(source: &Source, out: &mut Output) -> Result<(), Failure> {
 
 fn node_row(node: &Node) -> String {
     format!(
-        "{:>#10x}  {:<28}{:>10}  {:>14}  {:>14}",
+        "{:>#10x}  {:<28}{:>10}  {:>18}  {:>18}",
         node.node,
         node_type(node.node),
         number_or_dash(node.parent),
@@ -69,7 +69,7 @@ fn node_facts(node: &Node) -> Value {
 
 fn block_row(block: &Block) -> String {
     format!(
-        "{:>#14x}  {:<10}{:>#12x}  {:>6}  {:>10}",
+        "{:>#18x}  {:<8}  {:>#18x}  {:>6}  {:>10}",
         block.block,
         kind(block),
         block.offset,

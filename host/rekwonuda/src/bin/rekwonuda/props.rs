@@ -104,6 +104,9 @@ fn shown_number(type_code: u16, number: u32) -> String {
 
 fn shown_bytes(type_code: u16, bytes: &[u8]) -> String {
     let length = counted(bytes.len() as u64, "byte");
+    if bytes.is_empty() {
+        return length;
+    }
     if let Some(text) = text_of(type_code, bytes) {
         let start: String = text.chars().take(PREVIEW * 2).collect();
         let rest = if start.len() < text.len() { " ..." } else { "" };
@@ -153,6 +156,7 @@ mod tests {
 
     #[test]
     fn long_values_are_cut() {
+        assert_eq!(shown_bytes(TEXT, &[]), "0 bytes");
         assert_eq!(shown_bytes(0x102, &[1, 2]), "2 bytes: 0102");
         assert!(shown_bytes(0x102, &[0; 33]).ends_with(" ..."));
         assert!(shown_bytes(TEXT_8, &[b'a'; 65]).ends_with("a\" ..."));

@@ -1,6 +1,5 @@
-//! The command line as a test runs it, and the images that it is run on.
+//! The command line as a test runs it.
 
-use model::build::{build, Built, Plan};
 use serde_json::Value;
 use std::fs;
 use std::path::{Path, PathBuf};
@@ -49,36 +48,9 @@ pub fn run(words: &[&str], file: &Path, rest: &[&str]) -> Run {
     run
 }
 
-pub fn sample() -> PathBuf {
-    PathBuf::from(concat!(
-        env!("CARGO_MANIFEST_DIR"),
-        "/../../samples/mini.img"
-    ))
-}
-
 /// A file with these bytes, under a name that no other test uses.
 pub fn file(name: &str, bytes: &[u8]) -> PathBuf {
     let path = Path::new(env!("CARGO_TARGET_TMPDIR")).join(name);
     fs::write(&path, bytes).expect("the file can be written");
     path
-}
-
-/// An image with nodes and blocks of all kinds, in trees of several pages.
-pub fn sound() -> Built {
-    let plan = Plan {
-        method: 2,
-        node_level: 2,
-        block_level: 1,
-        bare_nodes: 3,
-        block_nodes: 20,
-        tree_nodes: 2,
-        property_nodes: 2,
-        properties: 12,
-        index_levels: 1,
-        most_size: 900,
-        most_children: 5,
-        spare_blocks: 2,
-        tidy: false,
-    };
-    build(7, &plan)
 }
