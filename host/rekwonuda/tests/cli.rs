@@ -5,7 +5,7 @@ mod runs;
 
 use images::{sample, sound};
 use model::build::seal::seal_header;
-use model::build::Built;
+use model::build::{Built, PlacedPage};
 use model::page::Tree;
 use model::{Node, Value as PropertyValue};
 use runs::{command, file, run, Run};
@@ -111,127 +111,71 @@ fn refused(name: &str, bytes: &[u8], refusal: u64, place: u64, words: &[&str]) -
     run
 }
 
+/// A sound image with one byte changed, and the header's checksums put right again.
+fn sealed(at: usize, byte: u8) -> Vec<u8> {
+    let mut image = sound().image;
+    image[at] = byte;
+    seal_header(&mut image);
+    image
+}
+
+/// A sound image with one bit changed.
+fn flipped(at: usize) -> Vec<u8> {
+    let mut image = sound().image;
+    image[at] ^= 1;
+    image
+}
+
+#[test]
+fn a_file_of_another_kind_is_told_apart() {
+    let words = ["whole file: 0 bytes", "empty or broke off"];
+    refused("empty.pst", b"", 1, 0, &words);
+    let words = ["first bytes are 20 42 44 4e", "This is not a .pst file"];
+    refused("other.pst", &flipped(0), 2, 0, &words);
+    let words = ["the bytes there are 53 4f", "offline store"];
+    refused("store.pst", &sealed(9, b'O'), 2, 8, &words);
+    let words = ["14, the 32-bit (ANSI) edition", "covers the 64-bit Unicode"];
+    refused("old.pst", &sealed(10, 14), 3, 10, &words);
+}
+
 #[test]
 fn a_fault_in_the_header_stops_the_check_there() {
-    let sound = sound().image;
-    let changed = |at: usize, byte: u8, seal: bool| {
-        let mut image = sound.clone();
-        image[at] = byte;
-        if seal {
-            seal_header(&mut image);
-        }
-        image
-    };
-    refused(
-        "empty.pst",
-        b"",
-        1,
-        0,
-        &["whole file: 0 bytes", "empty or broke off"],
-    );
-    let zip = changed(0, b'P', false);
-    refused(
-        "zip.pst",
-        &zip,
-        2,
-        0,
-        &["first bytes are 50 42 44 4e", "This is not a .pst file"],
-    );
-    let store = changed(9, b'O', true);
-    refused(
-        "store.pst",
-        &store,
-        2,
-        8,
-        &["the bytes there are 53 4f", "offline store"],
-    );
-    let old = changed(10, 14, true);
-    refused(
-        "old.pst",
-        &old,
-        3,
-        10,
-        &[
-            "14, the 32-bit (ANSI) edition",
-            "covers the 64-bit Unicode edition",
-        ],
-    );
-    let flipped = changed(100, !sound[100], false);
-    refused(
-        "flipped.pst",
-        &flipped,
-        4,
-        4,
-        &["bytes 8 to 478", "scanpst.exe"],
-    );
-    let behind = changed(500, !sound[500], false);
-    refused(
-        "behind.pst",
-        &behind,
-        4,
-        524,
-        &["bytes 8 to 523", "fresh copy"],
-    );
-    let sentinel = changed(512, 0, true);
-    refused(
-        "sentinel.pst",
-        &sentinel,
-        5,
-        512,
-        &["should be 80, and is 00"],
-    );
-    let method = changed(513, 3, true);
-    let run = refused("method.pst", &method, 5, 513, &["00, 01 or 02, and is 03"]);
-    assert!(run.says("header refused"));
+    let words = ["bytes 8 to 478", "scanpst.exe"];
+    refused("flipped.pst", &flipped(100), 4, 4, &words);
+    let words = ["bytes 8 to 523", "fresh copy"];
+    refused("behind.pst", &flipped(500), 4, 524, &words);
+    let words = ["should be 80, and is 00"];
+    refused("sentinel.pst", &sealed(512, 0), 5, 512, &words);
+    let words = ["00, 01 or 02, and is 03", "header refused"];
+    let run = refused("method.pst", &sealed(513, 3), 5, 513, &words);
     assert!(!run.says("node tree refused"));
 }
 
 #[test]
 fn a_fault_in_a_tree_names_the_tree() {
     let built = sound();
-    let flip = |at: usize| {
-        let mut image = built.image.clone();
-        image[at] ^= 1;
-        image
-    };
     let root = root_page(&built, Tree::Nodes);
-    let words = [
-        "node tree refused",
-        "the root page of the node tree",
-        "scanpst.exe",
-    ];
-    refused("node_root.pst", &flip(root), 9, root as u64, &words);
-    let leaf = built
-        .pages
-        .iter()
-        .find(|page| page.tree == Tree::Blocks && page.level == 0)
-        .unwrap();
+    let words = ["node tree refused", "the root page of the node tree"];
+    refused("root.pst", &flipped(root), 9, root as u64, &words);
+    let words = ["not a page of this tree", "scanpst.exe"];
+    refused("kind.pst", &flipped(root + 496), 7, root as u64, &words);
+    let is_leaf = |page: &&PlacedPage| page.tree == Tree::Blocks && page.level == 0;
+    let leaf = built.pages.iter().find(is_leaf).unwrap().offset;
     let words = [
         "node tree accepted",
         "block tree refused",
         "a page of the block tree",
     ];
-    refused(
-        "block_leaf.pst",
-        &flip(leaf.offset),
-        9,
-        leaf.offset as u64,
-        &words,
-    );
-    refused(
-        "kind.pst",
-        &flip(root + 496),
-        7,
-        root as u64,
-        &["not a page of this tree"],
-    );
-    let last = built.pages.iter().max_by_key(|page| page.offset).unwrap();
-    let cut = &built.image[..last.offset + 511];
-    let words = [
-        "refers to a page there, but the file ends at",
-        "cut short in transfer",
-    ];
-    refused("cut.pst", cut, 6, last.offset as u64, &words);
+    refused("leaf.pst", &flipped(leaf), 9, leaf as u64, &words);
+}
+
+#[test]
+fn a_file_that_was_cut_short_says_where_it_ends() {
+    let built = sound();
+    let last = built.pages.iter().map(|page| page.offset).max().unwrap();
+    let words = ["but the file ends at", "cut short in transfer"];
+    let cut = &built.image[..last + 511];
+    refused("cut.pst", cut, 6, last as u64, &words);
 }
 
 #[test]
