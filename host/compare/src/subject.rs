@@ -170,10 +170,14 @@ fn heap(random: &mut Random) -> PlacedHeap {
 fn heaps(random: &mut Random) -> Vec<Subject> {
     let heap = heap(random);
     let mut subjects = vec![heap_subject("heap".into(), &heap, heap.block.clone())];
-    for _ in 0..6 {
+    for _ in 0..10 {
         let damage = random.pick(ALL).copied().unwrap_or(ALL[0]);
-        let block = spoil_heap(&heap, damage, random);
-        subjects.push(heap_subject(format!("heap, {damage:?}"), &heap, block));
+        let spoilt = spoil_heap(&heap, damage, random);
+        let mut subject = heap_subject(format!("heap, {damage:?}"), &heap, spoilt.block);
+        if !spoilt.ids.is_empty() && !random.one_in(3) {
+            subject.ids = spoilt.ids.into_iter().map(u64::from).collect();
+        }
+        subjects.push(subject);
     }
     subjects
 }

@@ -217,7 +217,7 @@ fn with_heap(
     damage: HeapDamage,
     seed: u64,
 ) -> Option<Vec<u8>> {
-    let mut spoilt = spoil_heap(heap, damage, &mut Random::new(seed));
+    let mut spoilt = spoil_heap(heap, damage, &mut Random::new(seed)).block;
     let node = built.nodes.iter().find(|placed| placed.node == node)?;
     let block = built.block(node.data)?;
     encode(built.method, block.number, &mut spoilt).ok()?;

@@ -2,7 +2,7 @@
 
 use crate::bytes::put;
 use crate::heap::HEAP_MARK;
-use crate::property::{Property, Value, IN_PLACE, PROPERTIES, TREE_MARK};
+use crate::property::{Property, Value, PROPERTIES, TREE_MARK};
 use crate::random::Random;
 use std::collections::BTreeMap;
 
@@ -181,7 +181,7 @@ impl<'a> Filler<'a> {
     }
 
     fn property(&mut self) -> Property {
-        let in_place = self.random.one_of(IN_PLACE);
+        let in_place = self.random.one_of([2, 3, 4, 0xA, 0xB]);
         let other = self
             .random
             .one_of([0x1F, 0x102, 0x14, 0x40, 5, 0x48, 0x101F]);

@@ -18,6 +18,7 @@ pub enum HeapDamage {
     ClientKind,
     UserRoot,
     TreeRecord,
+    TreeRecordEnd,
     TreeRoot,
     RecordKey,
     RecordItem,
@@ -40,6 +41,7 @@ pub const ALL: &[HeapDamage] = &[
     ClientKind,
     UserRoot,
     TreeRecord,
+    TreeRecordEnd,
     TreeRoot,
     RecordKey,
     RecordItem,
@@ -47,22 +49,33 @@ pub const ALL: &[HeapDamage] = &[
     RecordValue,
 ];
 
+/// A damaged block, with property ids whose answers the damage may change.
+#[derive(Clone, Debug)]
+pub struct SpoiltHeap {
+    pub block: Vec<u8>,
+    pub ids: Vec<u16>,
+}
+
 /// A damage that finds nothing to act on leaves the block as it is.
-pub fn spoil_heap(heap: &PlacedHeap, damage: HeapDamage, random: &mut Random) -> Vec<u8> {
-    let block = heap.block.clone();
+pub fn spoil_heap(heap: &PlacedHeap, damage: HeapDamage, random: &mut Random) -> SpoiltHeap {
     let mut spoiler = Spoiler {
         heap,
-        block,
+        block: heap.block.clone(),
         random,
+        ids: Vec::new(),
     };
     spoiler.act(damage);
-    spoiler.block
+    SpoiltHeap {
+        block: spoiler.block,
+        ids: spoiler.ids,
+    }
 }
 
 struct Spoiler<'a> {
     heap: &'a PlacedHeap,
     block: Vec<u8>,
     random: &'a mut Random,
+    ids: Vec<u16>,
 }
 
 impl Spoiler<'_> {
@@ -81,7 +94,7 @@ impl Spoiler<'_> {
             ClientKind => self.flip(3, 4),
             MapOffset | ItemCount | ItemOffset | FirstOffset | LastOffset => self.map(damage),
             UserRoot => self.item_number(4),
-            TreeRecord | TreeRoot => self.tree_record(damage),
+            TreeRecord | TreeRecordEnd | TreeRoot => self.tree_record(damage),
             _ => self.record(damage),
         }
     }
@@ -121,8 +134,10 @@ impl Spoiler<'_> {
     fn item_number(&mut self, at: usize) {
         let items = self.heap.items.len() as u32;
         let now = u32_at(&self.block, at);
-        let odd = match self.random.below(6) {
+        let empty = self.heap.items.iter().position(Vec::is_empty);
+        let odd = match self.random.below(7) {
             0 => 0,
+            6 if empty.is_some() => (empty.unwrap_or(0) as u32 + 1) << 5,
             1 => (items + 1) << 5,
             2 => now | 1 << self.random.below(5),
             3 => now | 0x1_0000 << self.random.below(16),
@@ -148,6 +163,9 @@ impl Spoiler<'_> {
         let start = self.start(self.heap.user_root);
         if damage == TreeRoot {
             self.item_number(start + 4);
+        } else if damage == TreeRecordEnd {
+            let map = usize::from(u16_at(&self.block, 0));
+            self.nudge(map + 4 + 2 * (self.heap.user_root >> 5) as usize);
         } else if self.random.one_in(2) {
             self.block[start + 3] = self.random.below(6) as u8;
         } else {
@@ -166,20 +184,36 @@ impl Spoiler<'_> {
             return;
         };
         let size = if item.level == 0 { 8 } else { 6 };
+        let start = self.start(item.item);
+        let keys = (0..item.records).map(|at| u16_at(&self.heap.block, start + size * at));
+        let keys: Vec<_> = keys.collect();
         let at = self.random.below(item.records);
-        let record = self.start(item.item) + size * at;
+        let record = start + size * at;
         match damage {
-            RecordKey if at > 0 && self.random.one_in(2) => {
-                let before = u16_at(&self.block, record - size);
-                put(&mut self.block, record, &before.to_le_bytes());
-            }
-            RecordKey => self.nudge(record),
+            RecordKey => self.key(record, at, &keys),
             RecordItem => self.item_number(record + 2),
             RecordType => {
-                let kind = self.random.one_of([2_u16, 3, 0xB, 0x1F, 0x102, 0]);
+                let kind = self.random.one_of([2_u16, 3, 4, 0xA, 0xB, 0x1F, 0x102, 0]);
                 put(&mut self.block, record + 2, &kind.to_le_bytes());
             }
             _ => self.item_number(record + 4),
+        }
+        let near = if damage == RecordKey {
+            &keys[..]
+        } else {
+            &keys[at..=at]
+        };
+        self.ids.extend_from_slice(near);
+        self.ids.push(u16_at(&self.block, record));
+    }
+
+    fn key(&mut self, record: usize, at: usize, keys: &[u16]) {
+        let last = at + 1 == keys.len();
+        match self.random.below(4) {
+            0 if at > 0 => put(&mut self.block, record, &keys[at - 1].to_le_bytes()),
+            0 | 1 if at == 0 => put(&mut self.block, record, &[0, 0]),
+            1 | 2 if last => put(&mut self.block, record, &[0xFF, 0xFF]),
+            _ => self.nudge(record),
         }
     }
 }
