@@ -48,7 +48,7 @@ fn find_under(
 ) -> Answer<Option<Property>> {
     let size = if levels == 0 { 8 } else { 6 };
     let bytes = heap.bytes(item)?;
-    demand(!bytes.is_empty() && bytes.len() % size == 0, 20, 0)?;
+    demand(!bytes.is_empty() && bytes.len().is_multiple_of(size), 20, 0)?;
     let key = |at: usize| u64::from(u16_at(bytes, at * size));
     let count = bytes.len() / size;
     let ascending = (1..count).all(|at| key(at - 1) < key(at));

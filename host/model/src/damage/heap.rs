@@ -134,14 +134,14 @@ impl Spoiler<'_> {
     fn item_number(&mut self, at: usize) {
         let items = self.heap.items.len() as u32;
         let now = u32_at(&self.block, at);
-        let empty = self.heap.items.iter().position(Vec::is_empty);
+        let empty = self.heap.items.iter().position(Vec::is_empty).unwrap_or(0) as u32;
         let odd = match self.random.below(7) {
             0 => 0,
-            6 if empty.is_some() => (empty.unwrap_or(0) as u32 + 1) << 5,
             1 => (items + 1) << 5,
             2 => now | 1 << self.random.below(5),
             3 => now | 0x1_0000 << self.random.below(16),
             4 => (1 + self.random.below(items as usize) as u32) << 5,
+            5 => (1 + empty) << 5,
             _ => self.random.number() as u32,
         };
         put(&mut self.block, at, &odd.to_le_bytes());

@@ -90,7 +90,7 @@ impl<'a> Spoiler<'a> {
         };
     }
 
-    fn keys(&mut self, damage: Damage, page: &PlacedPage) {
+    fn keys(&mut self, damage: Damage, page: &'a PlacedPage) {
         let size = page.tree.entry_size(page.level);
         let last = page.keys.len() - 1;
         let key_at = |at: usize| page.offset + at * size;
@@ -107,15 +107,15 @@ impl<'a> Spoiler<'a> {
                 put(&mut self.image, key_at(at), &low.to_le_bytes());
             }
             Damage::KeyLow => {
-                let key = page.keys[0];
-                let lower = self.random.one_of([0, key.saturating_sub(1), key / 2]);
+                let (key, low) = (page.keys[0], self.low(page));
+                let edges = [0, key.saturating_sub(1), key / 2, low, low.wrapping_sub(1)];
+                let lower = self.random.one_of(edges);
                 put(&mut self.image, key_at(0), &lower.to_le_bytes());
             }
             Damage::KeyHigh => {
-                let key = page.keys[last];
-                let higher = self
-                    .random
-                    .one_of([u64::MAX, key.wrapping_add(1), key | key << 1]);
+                let (key, end) = (page.keys[last], self.end(page));
+                let edges = [u64::MAX, key.wrapping_add(1), key | key << 1, end, end - 1];
+                let higher = self.random.one_of(edges);
                 put(&mut self.image, key_at(last), &higher.to_le_bytes());
             }
             _ => {
@@ -123,6 +123,27 @@ impl<'a> Spoiler<'a> {
                 self.flip(key_at(at) + 4, key_at(at) + 8);
             }
         }
+    }
+
+    /// The keys of the index pages above the page's level.
+    fn keys_above(&self, page: &'a PlacedPage) -> impl Iterator<Item = u64> + 'a {
+        let pages = self.built.pages.iter();
+        let above = pages.filter(|other| other.tree == page.tree && other.level > page.level);
+        above.flat_map(|other| other.keys.iter().copied())
+    }
+
+    /// Where the page's range begins.
+    fn low(&self, page: &'a PlacedPage) -> u64 {
+        let up_to_first = self.keys_above(page).filter(|&key| key <= page.keys[0]);
+        up_to_first.max().unwrap_or(0)
+    }
+
+    /// The first key behind the page's range.
+    fn end(&self, page: &'a PlacedPage) -> u64 {
+        let behind_last = self
+            .keys_above(page)
+            .filter(|key| page.keys.last() < Some(key));
+        behind_last.min().unwrap_or(u64::MAX)
     }
 
     fn child(&mut self, damage: Damage, page: &PlacedPage) {
