@@ -2,6 +2,7 @@
 
 use bench::cases;
 use criterion::{criterion_group, criterion_main, Criterion};
+use std::time::Duration;
 
 fn calls(criterion: &mut Criterion) {
     for mut case in cases() {
@@ -14,7 +15,10 @@ fn calls(criterion: &mut Criterion) {
 
 criterion_group! {
     name = benches;
-    config = Criterion::default().sample_size(20);
+    config = Criterion::default()
+        .sample_size(20)
+        .warm_up_time(Duration::from_millis(300))
+        .measurement_time(Duration::from_secs(1));
     targets = calls
 }
 criterion_main!(benches);
