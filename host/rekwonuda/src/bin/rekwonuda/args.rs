@@ -27,7 +27,8 @@ pub struct Arguments {
 
 #[derive(Subcommand)]
 pub enum Command {
-    /// Check everything: the header, both trees and every block
+    /// Check the header, both trees and every listed block, up to the first refusal. What nodes hold is
+    /// tested when it is read, by `node` and `props`
     Check(FileArgument),
     /// Say what the file is: its size, encoding method, trees and their counts
     Info(FileArgument),
