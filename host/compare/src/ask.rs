@@ -9,9 +9,7 @@ pub enum Call {
     CheckBlocks,
     FindNode,
     FindBlock,
-    #[cfg(feature = "listing")]
     NextNode,
-    #[cfg(feature = "listing")]
     NextBlock,
     TestBlock,
     ReadBlock,
@@ -34,9 +32,7 @@ pub const ON_IMAGE: &[Call] = &[
     Call::CheckBlocks,
     Call::FindNode,
     Call::FindBlock,
-    #[cfg(feature = "listing")]
     Call::NextNode,
-    #[cfg(feature = "listing")]
     Call::NextBlock,
     Call::TestBlock,
     Call::ReadBlock,
@@ -65,7 +61,6 @@ pub const ON_BYTES: &[Call] = &[
 
 impl Call {
     pub fn takes_node(self) -> bool {
-        #[cfg(feature = "listing")]
         if self == Call::NextNode {
             return true;
         }
@@ -74,7 +69,6 @@ impl Call {
 
     /// Whether the answer's fourth field says found or absent.
     pub fn may_be_absent(self) -> bool {
-        #[cfg(feature = "listing")]
         if matches!(self, Call::NextNode | Call::NextBlock) {
             return true;
         }
@@ -218,9 +212,7 @@ fn look(ask: &Ask, lent: &[u8], own: &[u8]) -> Answers {
         Call::CheckBlocks => put_to_both!(check_blocks as plain, lent, own),
         Call::FindNode => put_to_both!(find_node as node, lent, own, number),
         Call::FindBlock => put_to_both!(find_block as block, lent, own, number),
-        #[cfg(feature = "listing")]
         Call::NextNode => put_to_both!(next_node as node, lent, own, number),
-        #[cfg(feature = "listing")]
         Call::NextBlock => put_to_both!(next_block as block, lent, own, number),
         Call::TestBlock => put_to_both!(test_block as size, lent, own, number),
         Call::TestHeap => put_to_both!(test_heap as plain, lent, own),

@@ -17,9 +17,7 @@ mod sys {
         pub fn rkw_check_blocks(image: *const u8, len: usize) -> Fields<3>;
         pub fn rkw_find_node(image: *const u8, len: usize, node: u64) -> Fields<9>;
         pub fn rkw_find_block(image: *const u8, len: usize, block: u64) -> Fields<9>;
-        #[cfg(feature = "listing")]
         pub fn rkw_next_node(image: *const u8, len: usize, from: u64) -> Fields<9>;
-        #[cfg(feature = "listing")]
         pub fn rkw_next_block(image: *const u8, len: usize, from: u64) -> Fields<9>;
         pub fn rkw_test_block(image: *const u8, len: usize, block: u64) -> Fields<4>;
         pub fn rkw_read_block(
@@ -70,13 +68,9 @@ pub fn find_node(image: &[u8], node: u64) -> [u64; 9] {
 pub fn find_block(image: &[u8], block: u64) -> [u64; 9] {
     unsafe { sys::rkw_find_block(image.as_ptr(), image.len(), block) }.0
 }
-
-#[cfg(feature = "listing")]
 pub fn next_node(image: &[u8], from: u64) -> [u64; 9] {
     unsafe { sys::rkw_next_node(image.as_ptr(), image.len(), from) }.0
 }
-
-#[cfg(feature = "listing")]
 pub fn next_block(image: &[u8], from: u64) -> [u64; 9] {
     unsafe { sys::rkw_next_block(image.as_ptr(), image.len(), from) }.0
 }
