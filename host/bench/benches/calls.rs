@@ -1,0 +1,24 @@
+//! Every call in the proved library and in the model, side by side.
+
+use bench::cases;
+use criterion::{criterion_group, criterion_main, Criterion};
+use std::time::Duration;
+
+fn calls(criterion: &mut Criterion) {
+    for mut case in cases() {
+        let mut group = criterion.benchmark_group(format!("{}, {}", case.call, case.input));
+        group.bench_function("proved", |bencher| bencher.iter(&mut case.proved));
+        group.bench_function("model", |bencher| bencher.iter(&mut case.model));
+        group.finish();
+    }
+}
+
+criterion_group! {
+    name = benches;
+    config = Criterion::default()
+        .sample_size(20)
+        .warm_up_time(Duration::from_millis(300))
+        .measurement_time(Duration::from_secs(1));
+    targets = calls
+}
+criterion_main!(benches);

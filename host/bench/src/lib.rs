@@ -1,0 +1,310 @@
+//! The calls that are timed, each on the same input in the proved library and in the model.
+
+use model::build::heaps::{property_context, HeapPlan};
+use model::build::{build, Built, Plan};
+use model::random::Random;
+use rekwonuda::{Heap, Image};
+use std::sync::Arc;
+
+const LARGEST_BLOCK: usize = 8_176;
+const SEED: u64 = 1;
+
+/// One call on one input, both ways. What they answer is a number that tells their work apart.
+pub struct Case {
+    pub call: &'static str,
+    pub input: String,
+    pub proved: Box<dyn FnMut() -> u64>,
+    pub model: Box<dyn FnMut() -> u64>,
+}
+
+impl Case {
+    /// Both ways must answer the same, or their times say nothing.
+    fn new(
+        call: &'static str,
+        input: impl Into<String>,
+        mut proved: impl FnMut() -> u64 + 'static,
+        mut model: impl FnMut() -> u64 + 'static,
+    ) -> Case {
+        let input = input.into();
+        assert_eq!(proved(), model(), "{call}, {input}");
+        Case {
+            call,
+            input,
+            proved: Box::new(proved),
+            model: Box::new(model),
+        }
+    }
+}
+
+/// All cases.
+pub fn cases() -> Vec<Case> {
+    [
+        checksums(),
+        codings(),
+        headers(),
+        tree_checks(),
+        node_lookups(),
+        block_lookups(),
+        block_tests(),
+        node_reads(),
+        properties(),
+    ]
+    .into_iter()
+    .flatten()
+    .collect()
+}
+
+fn bytes(length: usize) -> Vec<u8> {
+    Random::new(SEED).bytes(length)
+}
+
+fn checksums() -> Vec<Case> {
+    let case = |length: usize| {
+        let (left, right) = (bytes(length), bytes(length));
+        Case::new(
+            "checksum",
+            format!("{length} bytes"),
+            move || rekwonuda::checksum(&left).into(),
+            move || model::checksum(&right).into(),
+        )
+    };
+    vec![case(4096), case(8192)]
+}
+
+type Coding<R> = fn(u8, u64, &mut [u8]) -> Result<(), R>;
+
+fn codings() -> Vec<Case> {
+    let mut cases = Vec::new();
+    for (method, name) in [(1, "permute"), (2, "cyclic")] {
+        let input = format!("{name}, 8192 bytes");
+        let encode = (rekwonuda::encode as Coding<_>, model::encode as Coding<_>);
+        let decode = (rekwonuda::decode as Coding<_>, model::decode as Coding<_>);
+        cases.push(coding("encode", &input, method, encode));
+        cases.push(coding("decode", &input, method, decode));
+    }
+    cases
+}
+
+fn coding(
+    call: &'static str,
+    input: &str,
+    method: u8,
+    (proved, model): (Coding<rekwonuda::Refusal>, Coding<model::Refusal>),
+) -> Case {
+    let (mut left, mut right) = (bytes(8192), bytes(8192));
+    Case::new(
+        call,
+        input,
+        move || {
+            proved(method, 0x1518, &mut left).expect("the method is right");
+            left[0].into()
+        },
+        move || {
+            model(method, 0x1518, &mut right).expect("the method is right");
+            right[0].into()
+        },
+    )
+}
+
+fn image(plan: Plan) -> (Arc<Built>, Arc<Built>) {
+    let built = Arc::new(build(SEED, &Plan { tidy: true, ..plan }));
+    (Arc::clone(&built), built)
+}
+
+fn headers() -> Vec<Case> {
+    let (left, right) = image(Plan::default());
+    vec![Case::new(
+        "header",
+        "part of every call on an image",
+        move || {
+            Image(&left.image)
+                .header()
+                .map_or(0, |header| header.nodes.offset)
+        },
+        move || model::header(&right.image).map_or(0, |header| header.nodes.offset),
+    )]
+}
+
+fn tree_checks() -> Vec<Case> {
+    let (left, right) = image(Plan {
+        bare_nodes: 6_000,
+        ..Plan::default()
+    });
+    let nodes = Case::new(
+        "check_nodes",
+        "6000 nodes, level 2",
+        move || u64::from(Image(&left.image).check_nodes().is_ok()),
+        move || u64::from(model::check_nodes(&right.image).is_ok()),
+    );
+    let (left, right) = image(Plan {
+        spare_blocks: 8_000,
+        most_size: 1,
+        ..Plan::default()
+    });
+    let blocks = Case::new(
+        "check_blocks",
+        "8000 blocks, level 2",
+        move || u64::from(Image(&left.image).check_blocks().is_ok()),
+        move || u64::from(model::check_blocks(&right.image).is_ok()),
+    );
+    vec![nodes, blocks]
+}
+
+/// Full trees up to level 3, and one of the highest level with a single path.
+fn node_lookups() -> Vec<Case> {
+    let trees = [(0, 15), (1, 300), (2, 6_000), (3, 120_000), (7, 2)];
+    let mut cases = Vec::new();
+    for (node_level, bare_nodes) in trees {
+        let (left, right) = image(Plan {
+            node_level,
+            bare_nodes,
+            ..Plan::default()
+        });
+        let key = u64::from(left.nodes[left.nodes.len() / 2].node);
+        let input = format!("level {node_level}, {bare_nodes} nodes");
+        let (listed, also_listed) = (Arc::clone(&left), Arc::clone(&right));
+        cases.push(Case::new(
+            "find_node",
+            input.clone(),
+            move || {
+                Image(&left.image)
+                    .find_node(key)
+                    .map_or(0, |found| found.pages)
+            },
+            move || model::find_node(&right.image, key).map_or(0, |found| pages(&found)),
+        ));
+        cases.push(Case::new(
+            "next_node",
+            input,
+            move || {
+                Image(&listed.image)
+                    .next_node(key)
+                    .map_or(0, |found| found.pages)
+            },
+            move || model::next_node(&also_listed.image, key).map_or(0, |found| pages(&found)),
+        ));
+    }
+    cases
+}
+
+fn block_lookups() -> Vec<Case> {
+    let trees = [(0, 20), (1, 400), (2, 8_000)];
+    let mut cases = Vec::new();
+    for (level, spare_blocks) in trees {
+        let (left, right) = image(Plan {
+            spare_blocks,
+            most_size: 1,
+            ..Plan::default()
+        });
+        let key = left.blocks[left.blocks.len() / 2].number;
+        cases.push(Case::new(
+            "find_block",
+            format!("level {level}, {spare_blocks} blocks"),
+            move || {
+                Image(&left.image)
+                    .find_block(key)
+                    .map_or(0, |found| found.pages)
+            },
+            move || model::find_block(&right.image, key).map_or(0, |found| pages(&found)),
+        ));
+    }
+    cases
+}
+
+fn pages<T>(lookup: &model::Lookup<T>) -> u64 {
+    match lookup {
+        model::Lookup::Found { pages, .. } | model::Lookup::Absent { pages } => *pages,
+    }
+}
+
+fn block_tests() -> Vec<Case> {
+    let mut cases = Vec::new();
+    for (method, name) in [(0, "none"), (1, "permute"), (2, "cyclic")] {
+        let (left, right) = image(Plan {
+            method,
+            spare_blocks: 40,
+            most_size: LARGEST_BLOCK,
+            ..Plan::default()
+        });
+        let largest = left.blocks.iter().max_by_key(|block| block.size);
+        let (key, size) = largest.map_or((0, 0), |block| (block.number, block.size));
+        let (read, also_read) = (Arc::clone(&left), Arc::clone(&right));
+        let (mut out, mut also_out) = ([0; LARGEST_BLOCK], [0; LARGEST_BLOCK]);
+        if method == 0 {
+            cases.push(Case::new(
+                "test_block",
+                format!("{size} bytes, level 1"),
+                move || Image(&left.image).test_block(key).unwrap_or(0),
+                move || model::test_block(&right.image, key).map_or(0, u64::from),
+            ));
+        }
+        cases.push(Case::new(
+            "read_block",
+            format!("{size} bytes, {name}"),
+            move || {
+                Image(&read.image)
+                    .read_block(key, &mut out)
+                    .map_or(0, |length| length as u64)
+            },
+            move || {
+                model::read_block(&also_read.image, key, &mut also_out)
+                    .map_or(0, |length| length as u64)
+            },
+        ));
+    }
+    cases
+}
+
+fn node_reads() -> Vec<Case> {
+    let mut cases = Vec::new();
+    for most_children in [8, 128, 1_021] {
+        let (left, right) = image(Plan {
+            method: 1,
+            tree_nodes: 1,
+            most_children,
+            most_size: LARGEST_BLOCK,
+            ..Plan::default()
+        });
+        let key = u64::from(left.nodes[0].node);
+        let length = left.data(&left.nodes[0]).len();
+        let (mut out, mut also_out) = (vec![0; length], vec![0; length]);
+        let count = |found: Option<usize>| found.map_or(0, |length| length as u64);
+        cases.push(Case::new(
+            "read_node",
+            format!("{most_children} blocks, {length} bytes, permute"),
+            move || Image(&left.image).read_node(key, &mut out).map_or(0, count),
+            move || model::read_node(&right.image, key, &mut also_out).map_or(0, count),
+        ));
+    }
+    cases
+}
+
+fn properties() -> Vec<Case> {
+    let mut cases = Vec::new();
+    for index_levels in 0..=3 {
+        let plan = HeapPlan {
+            index_levels,
+            properties: 200,
+            most_value: 60,
+            tidy: true,
+        };
+        let heap = property_context(&mut Random::new(SEED), plan);
+        let count = heap.properties.len();
+        let id = heap.properties.keys().nth(count / 2).copied().unwrap_or(0);
+        let input = format!("{count} properties, index levels: {index_levels}");
+        let (left, right) = (heap.block.clone(), heap.block);
+        cases.push(Case::new(
+            "find_property",
+            input,
+            move || {
+                let found = Heap(&left).find_property(id).ok().flatten();
+                found.map_or(0, |property| property.type_code.into())
+            },
+            move || {
+                let found = model::find_property(&right, id).ok().flatten();
+                found.map_or(0, |property| property.kind.into())
+            },
+        ));
+    }
+    cases
+}

@@ -1,0 +1,226 @@
+//! One call, put to both.
+
+use crate::{answers, proved};
+
+#[derive(Clone, Copy, PartialEq, Eq, PartialOrd, Ord, Debug)]
+pub enum Call {
+    Header,
+    CheckNodes,
+    CheckBlocks,
+    FindNode,
+    FindBlock,
+    NextNode,
+    NextBlock,
+    TestBlock,
+    ReadBlock,
+    ReadNode,
+    Encode,
+    Decode,
+    TestHeap,
+    TestItem,
+    Item,
+    FindProperty,
+    Checksum,
+    Signature,
+    Room,
+}
+
+/// The calls on an image; those with a buffer are asked more often.
+pub const ON_IMAGE: &[Call] = &[
+    Call::Header,
+    Call::CheckNodes,
+    Call::CheckBlocks,
+    Call::FindNode,
+    Call::FindBlock,
+    Call::NextNode,
+    Call::NextBlock,
+    Call::TestBlock,
+    Call::ReadBlock,
+    Call::ReadBlock,
+    Call::ReadNode,
+    Call::ReadNode,
+    Call::ReadNode,
+];
+
+pub const ON_HEAP: &[Call] = &[
+    Call::TestHeap,
+    Call::TestItem,
+    Call::Item,
+    Call::FindProperty,
+    Call::FindProperty,
+    Call::FindProperty,
+];
+
+pub const ON_BYTES: &[Call] = &[
+    Call::Encode,
+    Call::Decode,
+    Call::Checksum,
+    Call::Signature,
+    Call::Room,
+];
+
+impl Call {
+    pub fn takes_node(self) -> bool {
+        if self == Call::NextNode {
+            return true;
+        }
+        matches!(self, Call::FindNode | Call::ReadNode)
+    }
+
+    /// Whether the answer's fourth field says found or absent.
+    pub fn may_be_absent(self) -> bool {
+        if matches!(self, Call::NextNode | Call::NextBlock) {
+            return true;
+        }
+        matches!(
+            self,
+            Call::FindNode | Call::FindBlock | Call::ReadNode | Call::FindProperty
+        )
+    }
+
+    /// The refusals that the header of the C face allows this call.
+    pub fn refusals(self) -> Vec<u64> {
+        match self {
+            Call::Header => (1..=5).collect(),
+            Call::TestBlock => (1..=15).collect(),
+            Call::ReadBlock => (1..=15).chain([17]).collect(),
+            Call::ReadNode => (1..=17).collect(),
+            Call::Encode | Call::Decode => vec![5],
+            Call::TestHeap => vec![18],
+            Call::TestItem | Call::Item => vec![18, 19],
+            Call::FindProperty => vec![18, 19, 20],
+            Call::Checksum | Call::Signature | Call::Room => Vec::new(),
+            _ => (1..=11).collect(),
+        }
+    }
+}
+
+/// A call's arguments beside the lent bytes. Each call takes those that it has.
+#[derive(Clone, Copy, Debug)]
+pub struct Ask {
+    pub call: Call,
+    pub number: u64,
+    /// A page or block offset, for the signature.
+    pub offset: u64,
+    pub method: u8,
+    pub out_length: usize,
+}
+
+/// All fields of both answers.
+#[derive(Clone, Debug, PartialEq, Eq)]
+pub struct Answers {
+    pub proved: Vec<u64>,
+    pub model: Vec<u64>,
+}
+
+fn both<const N: usize>(proved: [u64; N], model: [u64; N]) -> Answers {
+    Answers {
+        proved: proved.to_vec(),
+        model: model.to_vec(),
+    }
+}
+
+/// Bytes that surround a buffer, so that a write beside it shows.
+pub const GUARD: usize = 64;
+
+/// The two buffers that a call may write, with their surroundings.
+#[derive(Default)]
+pub struct Buffers {
+    proved: Vec<u8>,
+    model: Vec<u8>,
+}
+
+impl Buffers {
+    /// A buffer that begins with those bytes and goes on in a pattern.
+    fn set(&mut self, start: &[u8], length: usize, pattern: u8) {
+        self.model.clear();
+        let whole = GUARD + length + GUARD;
+        self.model
+            .extend((0..whole).map(|at| (at as u8).wrapping_mul(31) ^ pattern));
+        let start = &start[..start.len().min(length)];
+        self.model[GUARD..GUARD + start.len()].copy_from_slice(start);
+        self.proved.clone_from(&self.model);
+    }
+
+    fn lend(&mut self) -> (&mut [u8], &mut [u8]) {
+        let end = self.model.len() - GUARD;
+        (&mut self.proved[GUARD..end], &mut self.model[GUARD..end])
+    }
+
+    pub fn same(&self) -> bool {
+        self.proved == self.model
+    }
+}
+
+/// Puts one call to both. `lent` is the proved library's copy of the bytes, `own` the model's.
+pub fn ask(ask: &Ask, lent: &[u8], own: &[u8], buffers: &mut Buffers) -> Answers {
+    match ask.call {
+        Call::ReadBlock | Call::ReadNode => {
+            buffers.set(&[], ask.out_length, ask.number as u8);
+            read(ask, lent, own, buffers)
+        }
+        Call::Encode | Call::Decode => {
+            buffers.set(own, ask.out_length, ask.number as u8);
+            code(ask, buffers)
+        }
+        _ => look(ask, lent, own),
+    }
+}
+
+fn read(ask: &Ask, lent: &[u8], own: &[u8], buffers: &mut Buffers) -> Answers {
+    let number = ask.number;
+    let (out, model_out) = buffers.lend();
+    if ask.call == Call::ReadBlock {
+        let model = model::read_block(own, number, model_out);
+        both(
+            proved::read_block(lent, number, out),
+            answers::length(model),
+        )
+    } else {
+        let model = model::read_node(own, number, model_out);
+        both(proved::read_node(lent, number, out), answers::data(model))
+    }
+}
+
+fn code(ask: &Ask, buffers: &mut Buffers) -> Answers {
+    let Ask { number, method, .. } = *ask;
+    let (bytes, model_bytes) = buffers.lend();
+    if ask.call == Call::Encode {
+        let model = model::encode(method, number, model_bytes);
+        both(proved::encode(method, number, bytes), answers::plain(model))
+    } else {
+        let model = model::decode(method, number, model_bytes);
+        both(proved::decode(method, number, bytes), answers::plain(model))
+    }
+}
+
+/// The same call of both, its answer as the fields of that shape.
+macro_rules! put_to_both {
+    ($call:ident as $shape:ident, $lent:expr, $own:expr $(, $argument:expr)*) => {
+        both(
+            proved::$call($lent $(, $argument)*),
+            answers::$shape(model::$call($own $(, $argument)*)),
+        )
+    };
+}
+
+fn look(ask: &Ask, lent: &[u8], own: &[u8]) -> Answers {
+    let number = ask.number;
+    match ask.call {
+        Call::Header => put_to_both!(header as header, lent, own),
+        Call::CheckNodes => put_to_both!(check_nodes as plain, lent, own),
+        Call::CheckBlocks => put_to_both!(check_blocks as plain, lent, own),
+        Call::FindNode => put_to_both!(find_node as node, lent, own, number),
+        Call::FindBlock => put_to_both!(find_block as block, lent, own, number),
+        Call::NextNode => put_to_both!(next_node as node, lent, own, number),
+        Call::NextBlock => put_to_both!(next_block as block, lent, own, number),
+        Call::TestBlock => put_to_both!(test_block as size, lent, own, number),
+        Call::TestHeap => put_to_both!(test_heap as plain, lent, own),
+        Call::TestItem => put_to_both!(test_item as plain, lent, own, number as u32),
+        Call::Item => put_to_both!(item as item, lent, own, number as u32),
+        Call::FindProperty => put_to_both!(find_property as property, lent, own, number as u16),
+        Call::Signature => put_to_both!(signature as number, ask.offset, ask.offset, number),
+        Call::Room => put_to_both!(room as number, number as u32, number as u32),
+        _ => put_to_both!(checksum as number, lent, own),
+    }
+}

@@ -1,0 +1,9 @@
+//! Holds the proved library against the model: the same call on the same bytes, every field of the
+//! answer and every byte of every buffer compared.
+
+pub mod answers;
+pub mod ask;
+pub mod proved;
+pub mod run;
+pub mod subject;
+pub mod tally;

@@ -1,0 +1,161 @@
+//! The seeded loop.
+
+use crate::ask::{ask, Answers, Ask, Buffers, Call};
+use crate::subject::{subjects, widest_image, Subject};
+use crate::tally::Tally;
+use model::random::Random;
+use std::fmt::Write;
+use std::path::PathBuf;
+
+/// A call that the two answered differently, or that wrote where it may not.
+#[derive(Clone)]
+pub struct Disagreement {
+    pub report: String,
+}
+
+pub struct Run {
+    pub seed: u64,
+    pub calls: u64,
+    pub tally: Tally,
+    pub disagreements: Vec<Disagreement>,
+    buffers: Buffers,
+}
+
+/// After so many disagreements a run ends.
+const MOST_DISAGREEMENTS: usize = 10;
+
+impl Run {
+    pub fn new(seed: u64) -> Self {
+        Self {
+            seed,
+            calls: 0,
+            tally: Tally::default(),
+            disagreements: Vec::new(),
+            buffers: Buffers::default(),
+        }
+    }
+
+    /// Makes at least so many calls, and hears of the number made now and then.
+    pub fn make(&mut self, calls: u64, mut progress: impl FnMut(u64)) {
+        let mut seeds = Random::new(self.seed);
+        let widest = [widest_image(0), widest_image(1), widest_image(2)];
+        for subject in &widest {
+            self.ask_all(self.seed, subject);
+        }
+        while self.calls < calls && self.disagreements.len() < MOST_DISAGREEMENTS {
+            let seed = seeds.number();
+            for subject in subjects(seed) {
+                self.ask_all(seed, &subject);
+            }
+            progress(self.calls);
+        }
+    }
+
+    fn ask_all(&mut self, seed: u64, subject: &Subject) {
+        let lent = subject.bytes.clone();
+        let mut random = Random::new(seed ^ subject.bytes.len() as u64);
+        for _ in 0..subject.asks {
+            let question = question(subject, &mut random);
+            let answers = ask(&question, &lent, &subject.bytes, &mut self.buffers);
+            self.calls += 1;
+            self.tally.add(question.call, &answers);
+            let fault = fault(&answers, self.buffers.same(), lent == subject.bytes);
+            if let Some(fault) = fault {
+                self.report(seed, subject, &question, &answers, fault);
+                return;
+            }
+        }
+    }
+
+    fn report(&mut self, seed: u64, subject: &Subject, ask: &Ask, answers: &Answers, fault: &str) {
+        let at = self.disagreements.len();
+        let mut report = format!("{fault}: seed {seed:#x}, {}, {ask:x?}\n", subject.name);
+        let _ = writeln!(
+            report,
+            "  proved {:x?}\n  model  {:x?}",
+            answers.proved, answers.model
+        );
+        let folder = PathBuf::from(env!("CARGO_MANIFEST_DIR")).join("../../target/compare");
+        let path = folder.join(format!("disagreement-{}-{at}.img", self.seed));
+        let written =
+            std::fs::create_dir_all(&folder).and_then(|()| std::fs::write(&path, &subject.bytes));
+        let _ = match written {
+            Ok(()) => writeln!(report, "  bytes in {}", path.display()),
+            Err(error) => writeln!(report, "  bytes not written: {error}"),
+        };
+        eprint!("{report}");
+        self.disagreements.push(Disagreement { report });
+    }
+}
+
+fn fault(answers: &Answers, same_buffers: bool, unchanged: bool) -> Option<&'static str> {
+    if answers.proved != answers.model {
+        Some("answers differ")
+    } else if !same_buffers {
+        Some("buffers differ")
+    } else if !unchanged {
+        Some("the lent bytes changed")
+    } else {
+        None
+    }
+}
+
+fn question(subject: &Subject, random: &mut Random) -> Ask {
+    let call = random.pick(subject.calls).copied().unwrap_or(Call::Room);
+    let number = number_for(call, subject, random);
+    let method = if random.one_in(8) {
+        random.byte()
+    } else {
+        random.below(3) as u8
+    };
+    let offset = match random.below(3) {
+        0 => number,
+        1 => random.below(1 << 30) as u64,
+        _ => random.number(),
+    };
+    Ask {
+        call,
+        number,
+        offset,
+        method,
+        out_length: out_length(call, number, subject, random),
+    }
+}
+
+fn number_for(call: Call, subject: &Subject, random: &mut Random) -> u64 {
+    let known = match call {
+        Call::TestItem | Call::Item => &subject.items,
+        Call::FindProperty => &subject.ids,
+        _ if call.takes_node() => &subject.nodes,
+        _ => &subject.blocks,
+    };
+    let known = random.pick(known).copied().unwrap_or(64);
+    match random.below(16) {
+        0 => known.wrapping_add(1),
+        1 => known.wrapping_sub(1),
+        2 => random.one_of([0, 1, 2, 4, u64::MAX, u64::from(u32::MAX), 1 << 32]),
+        3 => known | random.number() << 32,
+        4 => random.number(),
+        5 => random.below(10_000) as u64,
+        6 => known ^ 1 << random.below(64),
+        _ => known,
+    }
+}
+
+/// None, one short, exact, one over, or some over what the call needs.
+fn out_length(call: Call, number: u64, subject: &Subject, random: &mut Random) -> usize {
+    let answer = match call {
+        Call::ReadBlock => model::read_block(&subject.bytes, number, &mut []).map(|_| 0),
+        Call::ReadNode => model::read_node(&subject.bytes, number, &mut []).map(|_| 0),
+        Call::Encode | Call::Decode => return subject.bytes.len(),
+        _ => return 0,
+    };
+    let needed = answer.map_or_else(|refusal| refusal.more as usize, |_| 0);
+    match random.below(6) {
+        0 => 0,
+        1 => needed.saturating_sub(1),
+        2 | 3 => needed,
+        4 => needed + 1,
+        _ => needed + random.below(200),
+    }
+}

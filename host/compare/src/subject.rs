@@ -1,0 +1,217 @@
+//! What is lent to the calls: built, damaged and random images, heaps and plain bytes, each with the
+//! numbers worth asking for.
+
+use crate::ask::{Call, ON_BYTES, ON_HEAP, ON_IMAGE};
+use model::build::heaps::{bare_heap, empty_items, property_context, HeapPlan, PlacedHeap};
+use model::build::seal::seal_header;
+use model::build::{build, build_small, Built, Plan, MOST_SMALL};
+use model::damage::heap::{spoil_heap, ALL};
+use model::damage::{spoil, spoil_again, Damage, BLOCK, HEADER, PAGE, WHOLE};
+use model::random::Random;
+
+pub struct Subject {
+    /// How it was made, for the report of a disagreement.
+    pub name: String,
+    pub bytes: Vec<u8>,
+    /// The calls to choose from.
+    pub calls: &'static [Call],
+    pub nodes: Vec<u64>,
+    pub blocks: Vec<u64>,
+    /// Item numbers and property ids.
+    pub items: Vec<u64>,
+    pub ids: Vec<u64>,
+    /// How many calls it is good for.
+    pub asks: usize,
+}
+
+impl Subject {
+    fn new(name: String, bytes: Vec<u8>, calls: &'static [Call]) -> Self {
+        Self {
+            name,
+            bytes,
+            calls,
+            nodes: Vec::new(),
+            blocks: Vec::new(),
+            items: Vec::new(),
+            ids: Vec::new(),
+            asks: 8,
+        }
+    }
+}
+
+/// Some subjects that belong together, made from one seed.
+pub fn subjects(seed: u64) -> Vec<Subject> {
+    let mut random = Random::new(seed);
+    match random.below(64) {
+        0..=33 => built_images(&mut random),
+        34..=37 => vec![random_image(&mut random)],
+        38..=53 => heaps(&mut random),
+        54..=55 => vec![random_heap(&mut random)],
+        _ => vec![plain_bytes(&mut random)],
+    }
+}
+
+fn built_images(random: &mut Random) -> Vec<Subject> {
+    let built = build_small(random.number());
+    let whole = Subject {
+        nodes: built
+            .nodes
+            .iter()
+            .map(|node| u64::from(node.node))
+            .collect(),
+        blocks: built.blocks.iter().map(|block| block.number).collect(),
+        ..Subject::new("built".into(), built.image.clone(), ON_IMAGE)
+    };
+    let damaged: Vec<_> = (0..12).map(|_| damaged_image(&built, random)).collect();
+    std::iter::once(whole).chain(damaged).collect()
+}
+
+fn damage(random: &mut Random) -> (Damage, bool) {
+    let group = match random.below(16) {
+        0 => WHOLE,
+        1..=3 => HEADER,
+        4..=9 => PAGE,
+        _ => BLOCK,
+    };
+    let damage = random.pick(group).copied().unwrap_or(Damage::AnyByte);
+    (damage, !random.one_in(4))
+}
+
+fn damaged_image(built: &Built, random: &mut Random) -> Subject {
+    let (first, sealed) = damage(random);
+    let mut name = format!("{first:?} sealed {sealed}");
+    let mut spoilt = spoil(built, first, sealed, random);
+    if random.one_in(4) {
+        let (second, sealed) = damage(random);
+        name += &format!(", {second:?} sealed {sealed}");
+        spoilt = spoil_again(built, spoilt, second, sealed, random);
+    }
+    let mut subject = Subject::new(name, spoilt.image, ON_IMAGE);
+    subject.nodes = spoilt.nodes;
+    subject.blocks = spoilt.blocks;
+    if subject.nodes.is_empty() || random.one_in(3) {
+        subject
+            .nodes
+            .extend(built.nodes.iter().map(|node| u64::from(node.node)));
+    }
+    if subject.blocks.is_empty() || random.one_in(3) {
+        subject
+            .blocks
+            .extend(built.blocks.iter().map(|block| block.number));
+    }
+    subject
+}
+
+fn random_image(random: &mut Random) -> Subject {
+    let length = match random.below(4) {
+        0 => random.one_of([0, 1, 563, 564, 565, 0x4400, 0x4600, MOST_SMALL]),
+        1 => random.below(600),
+        _ => random.below(MOST_SMALL + 1),
+    };
+    let mut bytes = random.bytes(length);
+    let headed = length >= 564 && random.one_in(2);
+    if headed {
+        let plan = Plan::default();
+        let head = build(random.number(), &plan).image;
+        bytes[..564].copy_from_slice(&head[..564]);
+        if random.one_in(2) {
+            random.fill(&mut bytes[216..248]);
+            seal_header(&mut bytes);
+        }
+    }
+    Subject::new(format!("random image, headed {headed}"), bytes, ON_IMAGE)
+}
+
+/// A data tree of the most bytes that a node can have: one block named 1,021 times.
+pub fn widest_image(seed: u64) -> Subject {
+    let plan = Plan {
+        method: (seed % 3) as u8,
+        tree_nodes: 1,
+        most_size: 8176,
+        most_children: 1021,
+        one_child: true,
+        ..Plan::default()
+    };
+    let built = build(seed, &plan);
+    Subject {
+        nodes: built
+            .nodes
+            .iter()
+            .map(|node| u64::from(node.node))
+            .collect(),
+        blocks: built.blocks.iter().map(|block| block.number).collect(),
+        asks: 6,
+        ..Subject::new("widest".into(), built.image, &[Call::ReadNode])
+    }
+}
+
+fn heap(random: &mut Random) -> PlacedHeap {
+    if random.one_in(12) {
+        let items = random.one_of([0, 1, 2046, 2047, 2048, 2049]);
+        return empty_items(random, items);
+    }
+    if random.one_in(6) {
+        let items = match random.below(8) {
+            0 => 0,
+            1 => 200,
+            _ => random.below(12),
+        };
+        return bare_heap(random, items);
+    }
+    let plan = HeapPlan {
+        index_levels: random.below(4) as u8,
+        properties: random.below(40),
+        most_value: random.one_of([0, 10, 60]),
+        tidy: random.one_in(4),
+    };
+    property_context(random, plan)
+}
+
+fn heaps(random: &mut Random) -> Vec<Subject> {
+    let heap = heap(random);
+    let mut subjects = vec![heap_subject("heap".into(), &heap, heap.block.clone())];
+    for _ in 0..10 {
+        let damage = random.pick(ALL).copied().unwrap_or(ALL[0]);
+        let spoilt = spoil_heap(&heap, damage, random);
+        let mut subject = heap_subject(format!("heap, {damage:?}"), &heap, spoilt.block);
+        if !spoilt.ids.is_empty() && !random.one_in(3) {
+            subject.ids = spoilt.ids.into_iter().map(u64::from).collect();
+        }
+        subjects.push(subject);
+    }
+    subjects
+}
+
+fn heap_subject(name: String, heap: &PlacedHeap, block: Vec<u8>) -> Subject {
+    Subject {
+        items: (1..=heap.items.len() as u64).map(|at| at << 5).collect(),
+        ids: heap.properties.keys().map(|&id| u64::from(id)).collect(),
+        ..Subject::new(name, block, ON_HEAP)
+    }
+}
+
+fn random_heap(random: &mut Random) -> Subject {
+    let length = match random.below(3) {
+        0 => random.one_of([0, 1, 11, 12, 13, 17, 18, 8176, 8177]),
+        _ => random.below(400),
+    };
+    let mut bytes = random.bytes(length);
+    if length > 12 && random.one_in(2) {
+        bytes[0] = random.between(12, length.min(255)) as u8;
+        bytes[1..4].copy_from_slice(&[0, 0xEC, 0xBC]);
+    }
+    Subject::new("random heap".into(), bytes, ON_HEAP)
+}
+
+fn plain_bytes(random: &mut Random) -> Subject {
+    let length = match random.below(4) {
+        0 => random.below(4),
+        1 => random.below(20_000),
+        _ => random.below(300),
+    };
+    let bytes = random.bytes(length);
+    Subject {
+        asks: 40,
+        ..Subject::new("bytes".into(), bytes, ON_BYTES)
+    }
+}

@@ -1,0 +1,28 @@
+//! 200,000 calls over built, damaged and random bytes: both answer alike, and every refusal comes up
+//! in every call that can give it.
+
+use compare::run::Run;
+use compare::tally::MOST_REFUSAL;
+
+#[test]
+fn differential() {
+    let mut run = Run::new(1);
+    run.make(200_000, |_| {});
+    println!("{}", run.tally);
+    println!(
+        "{} calls, {} disagreements",
+        run.calls,
+        run.disagreements.len()
+    );
+    assert!(
+        run.disagreements.is_empty(),
+        "the proved library and the model disagree"
+    );
+    for number in 1..=MOST_REFUSAL {
+        assert!(
+            run.tally.refusals(number) > 0,
+            "refusal {number} was not reached"
+        );
+    }
+    assert_eq!(run.tally.not_reached(), []);
+}

@@ -1,0 +1,56 @@
+//! The longest image that is read, and one byte more. Nearly all of it is zeros that nobody touches.
+
+use compare::{answers, proved};
+use model::build::seal::{seal_header, seal_page};
+use model::build::{build, Built, Plan};
+use model::header::MOST_IMAGE;
+
+fn put(image: &mut [u8], at: usize, number: u64) {
+    image[at..at + 8].copy_from_slice(&number.to_le_bytes());
+}
+
+fn small() -> Built {
+    let plan = Plan {
+        bare_nodes: 5,
+        tidy: true,
+        ..Plan::default()
+    };
+    build(1, &plan)
+}
+
+/// A small image with zeros behind it, whose root page of the node tree stands at that offset.
+fn long(length: usize, offset: usize) -> Vec<u8> {
+    let small = small();
+    let page = small.pages.last().expect("a root page").offset;
+    let mut image = vec![0; length];
+    image[..small.image.len()].copy_from_slice(&small.image);
+    image[offset..offset + 512].copy_from_slice(&small.image[page..page + 512]);
+    seal_page(&mut image, offset);
+    put(&mut image, 224, offset as u64);
+    seal_header(&mut image);
+    image
+}
+
+fn compare(image: &[u8], node: u64) -> u64 {
+    assert_eq!(proved::header(image), answers::header(model::header(image)));
+    assert_eq!(
+        proved::check_nodes(image),
+        answers::plain(model::check_nodes(image))
+    );
+    assert_eq!(
+        proved::check_blocks(image),
+        answers::plain(model::check_blocks(image))
+    );
+    let found = proved::find_node(image, node);
+    assert_eq!(found, answers::node(model::find_node(image, node)));
+    found[0]
+}
+
+#[test]
+fn longest_image() {
+    let node = u64::from(small().nodes[0].node);
+    let image = long(MOST_IMAGE + 1, MOST_IMAGE - 512);
+    assert_eq!(compare(&image[..MOST_IMAGE], node), 0);
+    assert_eq!(compare(&image[..MOST_IMAGE - 1], node), 6);
+    assert_eq!(compare(&image, node), 1);
+}

@@ -1,0 +1,117 @@
+//! Blocks: lookup, test and reading (01, Blocks and their encoding; 003, 2.2.2.8).
+
+use crate::bytes::{u16_at, u32_at, u64_at};
+use crate::checksum::{checksum, signature};
+use crate::coding::{decode, NONE};
+use crate::header::{header, Header};
+use crate::page::{Tree, FIRST_OFFSET, STEP};
+use crate::refusal::{demand, Answer, Refusal};
+use crate::tree::{self, Lookup};
+
+pub const MOST_SIZE: u16 = 8176;
+pub const TRAILER: u64 = 16;
+
+/// A block as the BBT lists it.
+#[derive(Clone, Copy, PartialEq, Eq, Debug)]
+pub struct Block {
+    pub block: u64,
+    pub offset: u64,
+    pub size: u16,
+    pub references: u16,
+}
+
+/// The smallest multiple of 64 that holds size + 16.
+pub fn room(size: u32) -> u64 {
+    (u64::from(size) + TRAILER).next_multiple_of(STEP)
+}
+
+pub fn is_internal(block: u64) -> bool {
+    block & 2 != 0
+}
+
+pub fn find_block(image: &[u8], block: u64) -> Answer<Lookup<Block>> {
+    let header = header(image)?;
+    find(image, &header, block)
+}
+
+pub fn next_block(image: &[u8], from: u64) -> Answer<Lookup<Block>> {
+    let header = header(image)?;
+    Ok(tree::next(image, &header, Tree::Blocks, from)?.map(listed))
+}
+
+/// The size of a block that passes every test.
+pub fn test_block(image: &[u8], block: u64) -> Answer<u16> {
+    let header = header(image)?;
+    Ok(Tested::new(image, &header, block)?.listed.size)
+}
+
+/// The number of bytes put at the front of `out`.
+pub fn read_block(image: &[u8], block: u64, out: &mut [u8]) -> Answer<usize> {
+    let header = header(image)?;
+    let tested = Tested::new(image, &header, block)?;
+    let needed = tested.stored.len();
+    let out = out.get_mut(..needed).ok_or(Refusal::short(needed))?;
+    tested.decode_into(header.method, out)?;
+    Ok(needed)
+}
+
+fn find(image: &[u8], header: &Header, block: u64) -> Answer<Lookup<Block>> {
+    Ok(tree::find(image, header, Tree::Blocks, block)?.map(listed))
+}
+
+fn listed(entry: &[u8]) -> Block {
+    Block {
+        block: u64_at(entry, 0),
+        offset: u64_at(entry, 8),
+        size: u16_at(entry, 16),
+        references: u16_at(entry, 18),
+    }
+}
+
+/// A block that has passed 12 to 15, and its bytes as stored.
+pub(crate) struct Tested<'a> {
+    pub listed: Block,
+    pub stored: &'a [u8],
+}
+
+impl<'a> Tested<'a> {
+    pub fn new(image: &'a [u8], header: &Header, block: u64) -> Answer<Self> {
+        let listed = find(image, header, block)?
+            .found()
+            .ok_or(Refusal::new(12, 0))?;
+        let place = listed.offset;
+        let room = room_in(image, &listed).ok_or(Refusal::new(13, place))?;
+        let (stored, rest) = room.split_at(usize::from(listed.size));
+        let trailer = &rest[rest.len() - TRAILER as usize..];
+        demand(is_trailer_of(trailer, &listed), 14, place)?;
+        demand(u32_at(trailer, 4) == checksum(stored), 15, place)?;
+        Ok(Tested { listed, stored })
+    }
+
+    /// `out` is as long as the block.
+    pub fn decode_into(&self, method: u8, out: &mut [u8]) -> Answer<()> {
+        out.copy_from_slice(self.stored);
+        let internal = is_internal(self.listed.block);
+        let method = if internal { NONE } else { method };
+        decode(method, self.listed.block, out)
+    }
+}
+
+/// The bytes from the block's first to its trailer's last, where 13 does not apply.
+fn room_in<'a>(image: &'a [u8], listed: &Block) -> Option<&'a [u8]> {
+    let Block { offset, size, .. } = *listed;
+    let allowed =
+        (1..=MOST_SIZE).contains(&size) && offset.is_multiple_of(STEP) && offset >= FIRST_OFFSET;
+    let end = offset.checked_add(room(u32::from(size)))?;
+    if allowed && end <= image.len() as u64 {
+        Some(&image[offset as usize..end as usize])
+    } else {
+        None
+    }
+}
+
+fn is_trailer_of(trailer: &[u8], listed: &Block) -> bool {
+    u16_at(trailer, 0) == listed.size
+        && u16_at(trailer, 2) == signature(listed.offset, listed.block)
+        && u64_at(trailer, 8) == listed.block
+}

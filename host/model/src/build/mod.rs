@@ -1,0 +1,354 @@
+//! A builder of valid images, the same for the same seed and plan. It answers the image along with
+//! what was placed in it.
+
+mod blocks;
+pub mod heaps;
+pub mod office;
+mod pages;
+pub mod seal;
+mod space;
+
+use crate::bytes::put;
+use crate::header::{Reference, CLIENT_MAGIC, MAGIC, SENTINEL, VERSION};
+use crate::node::Node;
+use crate::page::Tree;
+use crate::random::Random;
+use blocks::Blocks;
+use heaps::{property_context, HeapPlan, PlacedHeap};
+use pages::{least_level, Entry, Grower};
+use seal::seal_header;
+use space::Space;
+use std::collections::BTreeMap;
+
+/// The most bytes of an image that the programs work on.
+pub const MOST_SMALL: usize = 65_536;
+
+/// The reader's bounds, said here once more: a slip there must not change what is built.
+const MOST_SIZE: usize = 8176;
+const MOST_CHILDREN: usize = 1021;
+
+/// What an image is to hold.
+#[derive(Clone, Copy, Debug, Default)]
+pub struct Plan {
+    pub method: u8,
+    /// Level of the root page; at least as high as the number of entries asks for.
+    pub node_level: u8,
+    pub block_level: u8,
+    /// Nodes with data block 0.
+    pub bare_nodes: usize,
+    /// Nodes with one data block.
+    pub block_nodes: usize,
+    /// Nodes with a data tree.
+    pub tree_nodes: usize,
+    /// Nodes whose data block is a property context.
+    pub property_nodes: usize,
+    pub properties: usize,
+    pub index_levels: u8,
+    pub most_size: usize,
+    pub most_children: usize,
+    /// Every data tree names one block of the largest size, as often as it can.
+    pub one_child: bool,
+    /// Blocks that no node names.
+    pub spare_blocks: usize,
+    /// Full pages, ascending numbers, no gaps and no stale bytes.
+    pub tidy: bool,
+}
+
+#[derive(Clone, Debug)]
+pub struct PlacedPage {
+    pub tree: Tree,
+    pub offset: usize,
+    pub level: u8,
+    pub is_root: bool,
+    pub keys: Vec<u64>,
+}
+
+#[derive(Clone, Debug)]
+pub struct PlacedBlock {
+    pub number: u64,
+    pub offset: usize,
+    pub size: u16,
+    pub references: u16,
+    /// Its bytes, decoded.
+    pub data: Vec<u8>,
+}
+
+/// An image and what stands in it.
+#[derive(Clone, Debug)]
+pub struct Built {
+    pub image: Vec<u8>,
+    pub method: u8,
+    pub nodes: Vec<Node>,
+    pub blocks: Vec<PlacedBlock>,
+    pub pages: Vec<PlacedPage>,
+    /// The children of each data tree, by its block number.
+    pub trees: BTreeMap<u64, Vec<u64>>,
+    /// The property contexts, by node number.
+    pub heaps: BTreeMap<u32, PlacedHeap>,
+}
+
+impl Built {
+    pub fn block(&self, number: u64) -> Option<&PlacedBlock> {
+        self.blocks.iter().find(|block| block.number == number)
+    }
+
+    /// The blocks whose bytes are the data of a node.
+    pub fn parts(&self, node: &Node) -> Vec<u64> {
+        match self.trees.get(&node.data) {
+            Some(children) => children.clone(),
+            None if node.data == 0 => Vec::new(),
+            None => vec![node.data],
+        }
+    }
+
+    pub fn data(&self, node: &Node) -> Vec<u8> {
+        let parts = self.parts(node);
+        let blocks = parts.iter().filter_map(|&number| self.block(number));
+        blocks.flat_map(|block| block.data.clone()).collect()
+    }
+}
+
+pub fn build(seed: u64, plan: &Plan) -> Built {
+    let mut builder = Builder::new(seed, plan);
+    builder.place_nodes();
+    builder.finish()
+}
+
+/// A seeded image of at most 65,536 bytes; shapes of all kinds come up over the seeds.
+pub fn build_small(seed: u64) -> Built {
+    let mut random = Random::new(seed);
+    loop {
+        let built = build(random.number(), &small_plan(&mut random));
+        if built.image.len() <= MOST_SMALL {
+            return built;
+        }
+    }
+}
+
+fn small_plan(random: &mut Random) -> Plan {
+    let deep = random.one_in(3);
+    let most = if deep { 3 } else { 12 };
+    Plan {
+        method: random.below(3) as u8,
+        node_level: random.below(if deep { 8 } else { 3 }) as u8,
+        block_level: random.below(if deep { 8 } else { 3 }) as u8,
+        bare_nodes: random.below(most),
+        block_nodes: random.below(most),
+        tree_nodes: random.below(3),
+        property_nodes: random.below(3),
+        properties: random.below(40),
+        index_levels: random.below(4) as u8,
+        most_size: random.one_of([1, 49, 200, 200, 1200, MOST_SIZE]),
+        most_children: random.one_of([1, 3, 3, 8]),
+        one_child: false,
+        spare_blocks: random.below(most),
+        tidy: random.one_in(6),
+    }
+}
+
+struct Builder<'a> {
+    plan: &'a Plan,
+    space: Space,
+    blocks: Blocks,
+    nodes: BTreeMap<u32, Node>,
+    trees: BTreeMap<u64, Vec<u64>>,
+    heaps: BTreeMap<u32, PlacedHeap>,
+}
+
+impl<'a> Builder<'a> {
+    fn new(seed: u64, plan: &'a Plan) -> Self {
+        Self {
+            plan,
+            space: Space::new(seed, plan.tidy),
+            blocks: Blocks::new(plan.method),
+            nodes: BTreeMap::new(),
+            trees: BTreeMap::new(),
+            heaps: BTreeMap::new(),
+        }
+    }
+
+    fn place_nodes(&mut self) {
+        for _ in 0..self.plan.bare_nodes {
+            self.place_node(0);
+        }
+        for _ in 0..self.plan.block_nodes {
+            let (data, _) = self.place_block();
+            self.place_node(data);
+        }
+        for _ in 0..self.plan.tree_nodes {
+            let data = self.place_tree();
+            self.place_node(data);
+        }
+        for _ in 0..self.plan.property_nodes {
+            self.place_properties();
+        }
+        for _ in 0..self.plan.spare_blocks {
+            self.place_block();
+        }
+    }
+
+    /// A block of random bytes: its number and size.
+    fn place_block(&mut self) -> (u64, u32) {
+        let random = &mut self.space.random;
+        let most = self.plan.most_size.clamp(1, MOST_SIZE);
+        let size = match random.below(6) {
+            _ if self.plan.one_child => most,
+            0 => most,
+            1 => most.min(48),
+            _ => random.between(1, most),
+        };
+        let data = random.bytes(size);
+        (self.blocks.place(&mut self.space, data, false), size as u32)
+    }
+
+    /// A data tree; one child is named twice now and then.
+    fn place_tree(&mut self) -> u64 {
+        let most = self.plan.most_children.clamp(1, MOST_CHILDREN);
+        let Plan {
+            tidy, one_child, ..
+        } = *self.plan;
+        let count = if tidy || one_child {
+            most
+        } else {
+            self.space.random.between(1, most)
+        };
+        let (mut children, mut sum) = (Vec::new(), 0);
+        let mut child = self.place_block();
+        for _ in 0..count {
+            children.push(child.0);
+            sum += child.1;
+            let again = one_child || (!tidy && self.space.random.one_in(3));
+            if !again && children.len() < count {
+                child = self.place_block();
+            }
+        }
+        self.place_tree_over(children, sum)
+    }
+
+    fn place_tree_over(&mut self, children: Vec<u64>, sum: u32) -> u64 {
+        let number = self.blocks.place_tree(&mut self.space, &children, sum);
+        self.trees.insert(number, children);
+        number
+    }
+
+    fn place_properties(&mut self) {
+        let plan = HeapPlan {
+            index_levels: self.plan.index_levels,
+            properties: self.plan.properties,
+            most_value: 60,
+            tidy: self.plan.tidy,
+        };
+        let heap = property_context(&mut self.space.random, plan);
+        let data = self.place_data(heap.block.clone());
+        let node = self.place_node(data);
+        self.heaps.insert(node, heap);
+    }
+
+    fn place_data(&mut self, data: Vec<u8>) -> u64 {
+        self.blocks.place(&mut self.space, data, false)
+    }
+
+    /// Lists a node of a number not yet taken.
+    fn place_node(&mut self, data: u64) -> u32 {
+        let tidy = self.plan.tidy;
+        let random = &mut self.space.random;
+        let node = loop {
+            let node = match random.below(6) {
+                0 if !tidy => random.number() as u32,
+                1 if !tidy => random.below(64) as u32,
+                _ => 0x8022 + 0x20 * self.nodes.len() as u32,
+            };
+            if !self.nodes.contains_key(&node) {
+                break node;
+            }
+        };
+        let subnode = if tidy {
+            0
+        } else {
+            random.number() >> random.below(64)
+        };
+        let parent = if tidy { 0x122 } else { random.number() as u32 };
+        self.list_node(Node {
+            node,
+            data,
+            subnode,
+            parent,
+        });
+        node
+    }
+
+    fn list_node(&mut self, node: Node) {
+        self.nodes.insert(node.node, node);
+    }
+
+    fn finish(mut self) -> Built {
+        let mut pages = Vec::new();
+        let listed = self.blocks.entries(&mut self.space);
+        let blocks = self.grow(Tree::Blocks, &listed, self.plan.block_level, &mut pages);
+        let listed: Vec<_> = self
+            .nodes
+            .values()
+            .map(|node| node_entry(node, &mut self.space))
+            .collect();
+        let nodes = self.grow(Tree::Nodes, &listed, self.plan.node_level, &mut pages);
+        let mut image = self.space.bytes;
+        write_header(&mut image, self.plan.method, nodes, blocks);
+        Built {
+            image,
+            method: self.plan.method,
+            nodes: self.nodes.into_values().collect(),
+            blocks: self.blocks.placed,
+            pages,
+            trees: self.trees,
+            heaps: self.heaps,
+        }
+    }
+
+    fn grow(
+        &mut self,
+        tree: Tree,
+        entries: &[Entry],
+        level: u8,
+        pages: &mut Vec<PlacedPage>,
+    ) -> Reference {
+        // An index page holds at least one entry.
+        let level = if entries.is_empty() { 0 } else { level };
+        let level = level.max(least_level(tree, entries.len()));
+        let space = &mut self.space;
+        let root = Grower { space, tree, pages }.grow(entries, level, 0);
+        if let Some(page) = pages.last_mut() {
+            page.is_root = true;
+        }
+        root
+    }
+}
+
+fn node_entry(node: &Node, space: &mut Space) -> Entry {
+    // The high half of the first eight bytes and the padding may hold anything.
+    let mut bytes = space.fresh(32);
+    put(&mut bytes, 0, &node.node.to_le_bytes());
+    put(&mut bytes, 8, &node.data.to_le_bytes());
+    put(&mut bytes, 16, &node.subnode.to_le_bytes());
+    put(&mut bytes, 24, &node.parent.to_le_bytes());
+    Entry {
+        key: u64::from(node.node),
+        bytes,
+    }
+}
+
+fn write_header(image: &mut [u8], method: u8, nodes: Reference, blocks: Reference) {
+    put(image, 0, &MAGIC);
+    put(image, 8, &CLIENT_MAGIC);
+    put(image, 10, &VERSION.to_le_bytes());
+    // Fields that no rule here looks at, as 003, 2.2.2.5 and 2.2.2.6 have them: the version of the
+    // client, its platform, and the end of the file.
+    put(image, 12, &[19, 0, 1, 1]);
+    let end = image.len() as u64;
+    put(image, 184, &end.to_le_bytes());
+    let fields = [nodes.number, nodes.offset, blocks.number, blocks.offset];
+    for (at, field) in fields.iter().enumerate() {
+        put(image, 216 + 8 * at, &field.to_le_bytes());
+    }
+    put(image, 512, &[SENTINEL, method]);
+    seal_header(image);
+}

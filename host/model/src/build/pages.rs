@@ -1,0 +1,153 @@
+//! Trees of pages, from a list of leaf entries.
+
+use super::seal::seal_page;
+use super::space::Space;
+use super::PlacedPage;
+use crate::bytes::put;
+use crate::header::Reference;
+use crate::page::{Tree, MOST_LEVEL, PAGE};
+
+/// A leaf or index entry; the key is the part of it that counts.
+#[derive(Clone, Debug)]
+pub struct Entry {
+    pub key: u64,
+    pub bytes: Vec<u8>,
+}
+
+pub struct Grower<'a> {
+    pub space: &'a mut Space,
+    pub tree: Tree,
+    pub pages: &'a mut Vec<PlacedPage>,
+}
+
+/// The lowest level of a root over so many entries.
+pub fn least_level(tree: Tree, entries: usize) -> u8 {
+    (0..MOST_LEVEL)
+        .find(|&level| entries <= capacity(tree, level))
+        .unwrap_or(MOST_LEVEL)
+}
+
+fn capacity(tree: Tree, level: u8) -> usize {
+    tree.most_entries(0) * tree.most_entries(1).pow(u32::from(level))
+}
+
+impl Grower<'_> {
+    /// Writes the pages over the entries, children before their parent. `low` is where the page's
+    /// range begins.
+    pub fn grow(&mut self, entries: &[Entry], level: u8, low: u64) -> Reference {
+        if level == 0 {
+            return self.write(entries, level);
+        }
+        let parts = self.split(entries.len(), capacity(self.tree, level - 1));
+        let (mut rest, mut low) = (entries, low);
+        let mut index = Vec::new();
+        for part in parts {
+            let (own, behind) = rest.split_at(part);
+            let key = self.key_between(low, own[0].key);
+            let child = self.grow(own, level - 1, key);
+            index.push(index_entry(self.stored_key(key), key, child));
+            low = own[own.len() - 1].key.saturating_add(1);
+            rest = behind;
+        }
+        self.write(&index, level)
+    }
+
+    /// Cuts so many entries into at most 20 parts that each hold 1 to `most`.
+    fn split(&mut self, entries: usize, most: usize) -> Vec<usize> {
+        let least = entries.div_ceil(most);
+        let parts = if self.space.tidy {
+            least
+        } else {
+            let highest = (least + 2).min(entries).min(20).max(least);
+            self.space.random.between(least, highest)
+        };
+        let mut left = entries;
+        (0..parts)
+            .map(|at| {
+                let behind = parts - at - 1;
+                let low = left.saturating_sub(behind * most).max(1);
+                let high = most.min(left - behind);
+                let part = if self.space.tidy {
+                    high
+                } else {
+                    self.space.random.between(low, high)
+                };
+                left -= part;
+                part
+            })
+            .collect()
+    }
+
+    /// An index entry's key: mostly its child's first, else any that the range allows.
+    fn key_between(&mut self, low: u64, first: u64) -> u64 {
+        let random = &mut self.space.random;
+        if self.space.tidy || random.one_in(2) || low >= first {
+            first
+        } else {
+            low + random.number() % (first - low)
+        }
+    }
+
+    fn stored_key(&mut self, key: u64) -> u64 {
+        match self.tree {
+            Tree::Nodes if !self.space.tidy && self.space.random.one_in(4) => {
+                key | (self.space.random.number() << 32)
+            }
+            _ => key,
+        }
+    }
+
+    fn write(&mut self, entries: &[Entry], level: u8) -> Reference {
+        let offset = self.space.take(PAGE);
+        let number = self.number();
+        let most = self.tree.most_entries(level);
+        let room = if self.space.tidy {
+            most
+        } else {
+            self.space.random.between(entries.len(), most)
+        };
+        let page = &mut self.space.bytes[offset..offset + PAGE];
+        let size = self.tree.entry_size(level);
+        for (at, entry) in entries.iter().enumerate() {
+            put(page, at * size, &entry.bytes);
+        }
+        put(
+            page,
+            488,
+            &[entries.len() as u8, room as u8, size as u8, level],
+        );
+        put(page, 496, &[self.tree.kind(); 2]);
+        put(page, 504, &number.to_le_bytes());
+        seal_page(&mut self.space.bytes, offset);
+        self.pages.push(PlacedPage {
+            tree: self.tree,
+            offset,
+            level,
+            is_root: false,
+            keys: entries.iter().map(|entry| entry.key).collect(),
+        });
+        Reference {
+            number,
+            offset: offset as u64,
+        }
+    }
+
+    fn number(&mut self) -> u64 {
+        if self.space.tidy || self.space.random.one_in(2) {
+            0x200 + self.pages.len() as u64
+        } else {
+            self.space.random.number()
+        }
+    }
+}
+
+fn index_entry(stored_key: u64, key: u64, child: Reference) -> Entry {
+    let fields = [stored_key, child.number, child.offset];
+    Entry {
+        key,
+        bytes: fields
+            .iter()
+            .flat_map(|field| field.to_le_bytes())
+            .collect(),
+    }
+}

@@ -1,0 +1,173 @@
+//! Damage to a block, to its listing in the BBT, or to a data tree.
+
+use super::{Damage, Spoiler};
+use crate::block::room;
+use crate::build::seal::{seal_block, seal_page, trailer_at};
+use crate::build::PlacedBlock;
+use crate::bytes::{put, u64_at};
+use crate::page::Tree;
+
+impl<'a> Spoiler<'a> {
+    pub(super) fn spoil_block(&mut self, damage: Damage) {
+        let Some(block) = self.block_for(damage) else {
+            return;
+        };
+        self.look_at_block(block.number);
+        match damage {
+            Damage::ListedOffset | Damage::ListedSize => self.listed(damage, block),
+            Damage::Resize => {
+                let size = self.random.between(1, usize::from(block.size));
+                self.resize(block, size as u16);
+            }
+            Damage::TreeShort => {
+                let size = self.random.between(1, usize::from(block.size).min(9));
+                self.resize(block, size as u16);
+            }
+            Damage::MoveToEnd => self.move_to_end(block),
+            Damage::TrailerSize => self.trailer(block, 0, 2),
+            Damage::TrailerSignature => self.trailer(block, 2, 4),
+            Damage::TrailerSum => self.trailer(block, 4, 8),
+            Damage::TrailerNumber => self.trailer(block, 8, 16),
+            _ => self.stored(damage, block),
+        }
+    }
+
+    fn block_for(&mut self, damage: Damage) -> Option<&'a PlacedBlock> {
+        let built = self.built;
+        let trees_only = matches!(
+            damage,
+            Damage::TreeMark
+                | Damage::TreeLevel
+                | Damage::TreeCount
+                | Damage::TreeSum
+                | Damage::TreeChild
+                | Damage::TreeShort
+        );
+        let fits = |block: &&PlacedBlock| !trees_only || built.trees.contains_key(&block.number);
+        let blocks: Vec<_> = built.blocks.iter().filter(fits).collect();
+        self.random.pick(&blocks).copied()
+    }
+
+    /// The block, and every node that its bytes or its numbers belong to.
+    fn look_at_block(&mut self, number: u64) {
+        self.blocks.push(number);
+        let built = self.built;
+        let users = built
+            .nodes
+            .iter()
+            .filter(|node| node.data == number || built.parts(node).contains(&number));
+        self.nodes.extend(users.map(|node| u64::from(node.node)));
+    }
+
+    /// The offsets of the BBT's leaf page that lists the block, and of its entry there.
+    fn listing(&self, number: u64) -> Option<(usize, usize)> {
+        let mut leaves = self
+            .built
+            .pages
+            .iter()
+            .filter(|page| page.tree == Tree::Blocks && page.level == 0);
+        leaves.find_map(|page| {
+            let at = page.keys.iter().position(|&key| key == number)?;
+            Some((page.offset, page.offset + 24 * at))
+        })
+    }
+
+    fn listed(&mut self, damage: Damage, block: &PlacedBlock) {
+        let Some((page, entry)) = self.listing(block.number) else {
+            return;
+        };
+        if damage == Damage::ListedOffset {
+            let odd = self.odd_offset(block.offset as u64);
+            put(&mut self.image, entry + 8, &odd.to_le_bytes());
+        } else {
+            let near = [
+                block.size.wrapping_sub(1),
+                block.size + 1,
+                0,
+                8176,
+                8177,
+                u16::MAX,
+            ];
+            let odd = self.random.one_of(near);
+            put(&mut self.image, entry + 16, &odd.to_le_bytes());
+        }
+        if self.sealed {
+            seal_page(&mut self.image, page);
+        }
+    }
+
+    /// A smaller block in the same place, right in itself where it is sealed.
+    fn resize(&mut self, block: &PlacedBlock, size: u16) {
+        let Some((page, entry)) = self.listing(block.number) else {
+            return;
+        };
+        put(&mut self.image, entry + 16, &size.to_le_bytes());
+        seal_page(&mut self.image, page);
+        if self.sealed {
+            seal_block(&mut self.image, block.offset, size, block.number);
+        }
+    }
+
+    /// The block so that its room ends with the image; unsealed, one byte of the room is cut off.
+    fn move_to_end(&mut self, block: &PlacedBlock) {
+        let Some((page, entry)) = self.listing(block.number) else {
+            return;
+        };
+        let offset = self.image.len().next_multiple_of(64);
+        let end = offset + room(u32::from(block.size)) as usize;
+        self.image.resize(end, 0);
+        let stored = block.offset..block.offset + usize::from(block.size);
+        self.image.copy_within(stored, offset);
+        seal_block(&mut self.image, offset, block.size, block.number);
+        put(&mut self.image, entry + 8, &(offset as u64).to_le_bytes());
+        seal_page(&mut self.image, page);
+        if !self.sealed {
+            self.image.truncate(end - 1);
+        }
+    }
+
+    fn trailer(&mut self, block: &PlacedBlock, start: usize, end: usize) {
+        let trailer = trailer_at(block.offset, block.size);
+        self.flip(trailer + start, trailer + end);
+    }
+
+    fn stored(&mut self, damage: Damage, block: &PlacedBlock) {
+        let (at, size) = (block.offset, usize::from(block.size));
+        match damage {
+            Damage::TreeMark => self.flip(at, at + 1),
+            Damage::TreeLevel => self.flip(at + 1, at + 2),
+            Damage::TreeCount => {
+                let count = (size as u16 - 8) / 8;
+                let odd = self
+                    .random
+                    .one_of([0, count - 1, count + 1, 1021, 1022, u16::MAX]);
+                put(&mut self.image, at + 2, &odd.to_le_bytes());
+            }
+            Damage::TreeSum => self.flip(at + 4, at + 8),
+            Damage::TreeChild => {
+                let child = at + 8 + 8 * self.random.below((size - 8) / 8);
+                let odd = self.odd_block(u64_at(&self.image, child));
+                put(&mut self.image, child, &odd.to_le_bytes());
+            }
+            _ => self.flip(at, at + size),
+        }
+        if self.sealed {
+            seal_block(&mut self.image, at, block.size, block.number);
+        }
+    }
+
+    /// A block number that is not the right one in its place.
+    pub(super) fn odd_block(&mut self, now: u64) -> u64 {
+        let other = self
+            .random
+            .pick(&self.built.blocks)
+            .map_or(4, |block| block.number);
+        match self.random.below(6) {
+            0 => 0,
+            1 => 1,
+            2 => now ^ 2,
+            3 | 4 => other,
+            _ => self.odd_number(now),
+        }
+    }
+}

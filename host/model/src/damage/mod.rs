@@ -1,0 +1,242 @@
+//! Named kinds of damage to a built image, and to a heap. Together they reach every refusal.
+//!
+//! Each kind comes unsealed, so that a checksum over the damage no longer fits, and sealed, so that
+//! only the rule behind the checksum can tell.
+
+mod block;
+mod header;
+pub mod heap;
+mod page;
+
+use crate::build::Built;
+use crate::random::Random;
+
+#[derive(Clone, Copy, PartialEq, Eq, Debug)]
+pub enum Damage {
+    AnyByte,
+    Cut,
+    Magic,
+    ClientMagic,
+    Version,
+    PartialSum,
+    FullSum,
+    HeaderByte,
+    Sentinel,
+    Method,
+    RootNumber,
+    RootOffset,
+    RootGraft,
+    PageKind,
+    PageNumber,
+    PageSignature,
+    PageSum,
+    PageByte,
+    PageLevel,
+    EntrySize,
+    PageRoom,
+    PageCount,
+    KeyEqual,
+    KeySwap,
+    KeyLow,
+    KeyHigh,
+    KeyUpperHalf,
+    ChildNumber,
+    ChildOffset,
+    ChildGraft,
+    NodeData,
+    ListedOffset,
+    ListedSize,
+    Resize,
+    MoveToEnd,
+    BlockByte,
+    TrailerSize,
+    TrailerSignature,
+    TrailerNumber,
+    TrailerSum,
+    TreeMark,
+    TreeLevel,
+    TreeCount,
+    TreeSum,
+    TreeChild,
+    TreeShort,
+}
+
+use Damage::*;
+
+pub const HEADER: &[Damage] = &[
+    Magic,
+    ClientMagic,
+    Version,
+    PartialSum,
+    FullSum,
+    HeaderByte,
+    Sentinel,
+    Method,
+    RootNumber,
+    RootOffset,
+    RootGraft,
+];
+
+pub const PAGE: &[Damage] = &[
+    PageKind,
+    PageNumber,
+    PageSignature,
+    PageSum,
+    PageByte,
+    PageLevel,
+    EntrySize,
+    PageRoom,
+    PageCount,
+    KeyEqual,
+    KeySwap,
+    KeyLow,
+    KeyHigh,
+    KeyUpperHalf,
+    ChildNumber,
+    ChildOffset,
+    ChildGraft,
+    NodeData,
+];
+
+pub const BLOCK: &[Damage] = &[
+    ListedOffset,
+    ListedSize,
+    Resize,
+    MoveToEnd,
+    BlockByte,
+    TrailerSize,
+    TrailerSignature,
+    TrailerNumber,
+    TrailerSum,
+    TreeMark,
+    TreeLevel,
+    TreeCount,
+    TreeSum,
+    TreeChild,
+    TreeShort,
+];
+
+pub const WHOLE: &[Damage] = &[AnyByte, Cut];
+
+/// A damaged image, with nodes and blocks whose answers the damage may change.
+#[derive(Clone, Debug)]
+pub struct Spoilt {
+    pub image: Vec<u8>,
+    pub nodes: Vec<u64>,
+    pub blocks: Vec<u64>,
+}
+
+/// A damage that finds nothing to act on leaves the image as it is.
+pub fn spoil(built: &Built, damage: Damage, sealed: bool, random: &mut Random) -> Spoilt {
+    let mut spoiler = Spoiler::new(built, built.image.clone(), sealed, random);
+    spoiler.act(damage);
+    spoiler.finish()
+}
+
+/// A second damage on top of the first.
+pub fn spoil_again(
+    built: &Built,
+    spoilt: Spoilt,
+    damage: Damage,
+    sealed: bool,
+    random: &mut Random,
+) -> Spoilt {
+    if spoilt.image.len() < built.image.len() {
+        return spoilt;
+    }
+    let mut spoiler = Spoiler::new(built, spoilt.image, sealed, random);
+    spoiler.nodes = spoilt.nodes;
+    spoiler.blocks = spoilt.blocks;
+    spoiler.act(damage);
+    spoiler.finish()
+}
+
+struct Spoiler<'a> {
+    built: &'a Built,
+    image: Vec<u8>,
+    sealed: bool,
+    random: &'a mut Random,
+    nodes: Vec<u64>,
+    blocks: Vec<u64>,
+}
+
+impl<'a> Spoiler<'a> {
+    fn new(built: &'a Built, image: Vec<u8>, sealed: bool, random: &'a mut Random) -> Self {
+        Self {
+            built,
+            image,
+            sealed,
+            random,
+            nodes: Vec::new(),
+            blocks: Vec::new(),
+        }
+    }
+
+    fn finish(self) -> Spoilt {
+        Spoilt {
+            image: self.image,
+            nodes: self.nodes,
+            blocks: self.blocks,
+        }
+    }
+
+    fn act(&mut self, damage: Damage) {
+        if HEADER.contains(&damage) {
+            self.spoil_header(damage);
+        } else if PAGE.contains(&damage) {
+            self.spoil_page(damage);
+        } else if BLOCK.contains(&damage) {
+            self.spoil_block(damage);
+        } else if damage == Cut {
+            self.cut();
+        } else {
+            let end = self.image.len();
+            self.flip(0, end);
+        }
+    }
+
+    /// Changes one byte of a stretch.
+    fn flip(&mut self, start: usize, end: usize) {
+        let at = self.random.between(start, end - 1);
+        self.image[at] ^= 1 << self.random.below(8);
+    }
+
+    fn cut(&mut self) {
+        let length = self.image.len();
+        let at = match self.random.below(6) {
+            0 => self.random.one_of([0, 1, 563, 564, 565, 0x4400, 0x4401]),
+            1 => length - 1,
+            2 => length - 64,
+            3 => self.random.between(0x4400, length) / 64 * 64,
+            _ => self.random.below(length),
+        };
+        self.image.truncate(at);
+    }
+
+    /// An offset that is mostly not allowed for a page or a block.
+    fn odd_offset(&mut self, now: u64) -> u64 {
+        let length = self.image.len() as u64;
+        match self.random.below(10) {
+            0 => now.wrapping_add(1 << self.random.below(6)),
+            1 => now.wrapping_add(64),
+            2 => now.wrapping_sub(64),
+            3 => 0x43C0,
+            4 => length & !63,
+            5 => (length & !63).wrapping_sub(448),
+            6 => u64::MAX - 63,
+            7 => now | 1 << 40,
+            8 => 0,
+            _ => self.random.number(),
+        }
+    }
+
+    /// A number near another, or far from it.
+    fn odd_number(&mut self, now: u64) -> u64 {
+        match self.random.below(4) {
+            0 => now.wrapping_add(1),
+            1 => now ^ 1 << self.random.below(64),
+            2 => self.random.below(64) as u64,
+            _ => self.random.number(),
+        }
+    }
+}

@@ -1,0 +1,174 @@
+//! Damage to a page of either tree.
+
+use super::{Damage, Spoiler};
+use crate::build::seal::seal_page;
+use crate::build::PlacedPage;
+use crate::bytes::{put, u64_at};
+use crate::page::Tree;
+
+impl<'a> Spoiler<'a> {
+    pub(super) fn spoil_page(&mut self, damage: Damage) {
+        let Some(page) = self.page_for(damage) else {
+            return;
+        };
+        let offset = page.offset;
+        self.look_at(page);
+        match damage {
+            Damage::PageKind => self.page_kind(offset),
+            Damage::PageNumber => self.flip(offset + 504, offset + 512),
+            Damage::PageByte => self.flip(offset, offset + 496),
+            Damage::PageLevel | Damage::EntrySize | Damage::PageRoom | Damage::PageCount => {
+                self.page_counts(damage, offset)
+            }
+            Damage::ChildNumber | Damage::ChildOffset | Damage::ChildGraft => {
+                self.child(damage, page)
+            }
+            Damage::NodeData => self.node_data(page),
+            Damage::PageSignature | Damage::PageSum => {}
+            _ => self.keys(damage, page),
+        }
+        if self.sealed {
+            seal_page(&mut self.image, offset);
+        }
+        match damage {
+            Damage::PageSignature => self.flip(offset + 498, offset + 500),
+            Damage::PageSum => self.flip(offset + 500, offset + 504),
+            _ => {}
+        }
+    }
+
+    fn page_for(&mut self, damage: Damage) -> Option<&'a PlacedPage> {
+        let fits = |page: &&PlacedPage| match damage {
+            Damage::ChildNumber | Damage::ChildOffset | Damage::ChildGraft => page.level > 0,
+            Damage::NodeData => page.tree == Tree::Nodes && page.level == 0,
+            Damage::KeyEqual | Damage::KeySwap => page.keys.len() > 1,
+            Damage::KeyLow | Damage::KeyHigh | Damage::KeyUpperHalf => !page.keys.is_empty(),
+            _ => true,
+        };
+        let roots_only = self.random.one_in(4);
+        let chosen = |page: &&PlacedPage| !roots_only || page.is_root;
+        let pages: Vec<_> = self
+            .built
+            .pages
+            .iter()
+            .filter(fits)
+            .filter(chosen)
+            .collect();
+        self.random.pick(&pages).copied()
+    }
+
+    fn look_at(&mut self, page: &PlacedPage) {
+        let seen = match page.tree {
+            Tree::Nodes => &mut self.nodes,
+            Tree::Blocks => &mut self.blocks,
+        };
+        seen.extend_from_slice(&page.keys);
+    }
+
+    fn page_kind(&mut self, offset: usize) {
+        let kind = self.random.one_of([0x80, 0x81, 0x84, 0]);
+        match self.random.below(3) {
+            0 => self.image[offset + 496] = kind,
+            1 => self.image[offset + 497] = kind,
+            _ => put(&mut self.image, offset + 496, &[kind; 2]),
+        }
+    }
+
+    fn page_counts(&mut self, damage: Damage, offset: usize) {
+        let (at, edges) = match damage {
+            Damage::PageCount => (488, [0, 1, 15, 16, 20, 21]),
+            Damage::PageRoom => (489, [0, 1, 15, 16, 20, 21]),
+            Damage::EntrySize => (490, [24, 32, 0, 16, 23, 31]),
+            _ => (491, [0, 1, 6, 7, 8, 8]),
+        };
+        let now = self.image[offset + at];
+        self.image[offset + at] = match self.random.below(4) {
+            0 => now.wrapping_add(1),
+            1 => now.wrapping_sub(1),
+            2 => self.random.byte(),
+            _ => self.random.one_of(edges),
+        };
+    }
+
+    fn keys(&mut self, damage: Damage, page: &'a PlacedPage) {
+        let size = page.tree.entry_size(page.level);
+        let last = page.keys.len() - 1;
+        let key_at = |at: usize| page.offset + at * size;
+        match damage {
+            Damage::KeyEqual => {
+                let at = self.random.between(1, last);
+                let key = page.keys[at - 1];
+                put(&mut self.image, key_at(at), &key.to_le_bytes());
+            }
+            Damage::KeySwap => {
+                let at = self.random.between(1, last);
+                let (low, high) = (page.keys[at - 1], page.keys[at]);
+                put(&mut self.image, key_at(at - 1), &high.to_le_bytes());
+                put(&mut self.image, key_at(at), &low.to_le_bytes());
+            }
+            Damage::KeyLow => {
+                let (key, low) = (page.keys[0], self.low(page));
+                let edges = [0, key.saturating_sub(1), key / 2, low, low.wrapping_sub(1)];
+                let lower = self.random.one_of(edges);
+                put(&mut self.image, key_at(0), &lower.to_le_bytes());
+            }
+            Damage::KeyHigh => {
+                let (key, end) = (page.keys[last], self.end(page));
+                let edges = [u64::MAX, key.wrapping_add(1), key | key << 1, end, end - 1];
+                let higher = self.random.one_of(edges);
+                put(&mut self.image, key_at(last), &higher.to_le_bytes());
+            }
+            _ => {
+                let at = self.random.between(0, last);
+                self.flip(key_at(at) + 4, key_at(at) + 8);
+            }
+        }
+    }
+
+    /// The keys of the index pages above the page's level.
+    fn keys_above(&self, page: &'a PlacedPage) -> impl Iterator<Item = u64> + 'a {
+        let pages = self.built.pages.iter();
+        let above = pages.filter(|other| other.tree == page.tree && other.level > page.level);
+        above.flat_map(|other| other.keys.iter().copied())
+    }
+
+    /// Where the page's range begins.
+    fn low(&self, page: &'a PlacedPage) -> u64 {
+        let up_to_first = self.keys_above(page).filter(|&key| key <= page.keys[0]);
+        up_to_first.max().unwrap_or(0)
+    }
+
+    /// The first key behind the page's range.
+    fn end(&self, page: &'a PlacedPage) -> u64 {
+        let behind_last = self
+            .keys_above(page)
+            .filter(|key| page.keys.last() < Some(key));
+        behind_last.min().unwrap_or(u64::MAX)
+    }
+
+    fn child(&mut self, damage: Damage, page: &PlacedPage) {
+        let at = page.offset + 24 * self.random.below(page.keys.len());
+        match damage {
+            Damage::ChildNumber => {
+                let odd = self.odd_number(u64_at(&self.image, at + 8));
+                put(&mut self.image, at + 8, &odd.to_le_bytes());
+            }
+            Damage::ChildOffset => {
+                let odd = self.odd_offset(u64_at(&self.image, at + 16));
+                put(&mut self.image, at + 16, &odd.to_le_bytes());
+            }
+            _ => self.graft(at + 8),
+        }
+    }
+
+    fn node_data(&mut self, page: &PlacedPage) {
+        if page.keys.is_empty() {
+            return;
+        }
+        let at = self.random.below(page.keys.len());
+        let data = page.offset + 32 * at + 8;
+        let odd = self.odd_block(u64_at(&self.image, data));
+        put(&mut self.image, data, &odd.to_le_bytes());
+        self.nodes.push(page.keys[at]);
+    }
+}

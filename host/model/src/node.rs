@@ -1,0 +1,89 @@
+//! Nodes and their data (01, Blocks and their encoding: "Node data").
+
+use crate::block::{is_internal, Tested};
+use crate::bytes::{u16_at, u32_at, u64_at};
+use crate::header::{header, Header};
+use crate::page::Tree;
+use crate::refusal::{demand, Answer, Refusal};
+use crate::tree::{self, Lookup};
+
+pub const MOST_CHILDREN: usize = 1021;
+
+/// A node as the NBT lists it.
+#[derive(Clone, Copy, PartialEq, Eq, Debug)]
+pub struct Node {
+    pub node: u32,
+    pub data: u64,
+    pub subnode: u64,
+    pub parent: u32,
+}
+
+pub fn find_node(image: &[u8], node: u64) -> Answer<Lookup<Node>> {
+    let header = header(image)?;
+    Ok(tree::find(image, &header, Tree::Nodes, node)?.map(listed))
+}
+
+pub fn next_node(image: &[u8], from: u64) -> Answer<Lookup<Node>> {
+    let header = header(image)?;
+    Ok(tree::next(image, &header, Tree::Nodes, from)?.map(listed))
+}
+
+/// The number of bytes put at the front of `out`; None where the node is absent.
+pub fn read_node(image: &[u8], node: u64, out: &mut [u8]) -> Answer<Option<usize>> {
+    let header = header(image)?;
+    let Some(entry) = tree::find(image, &header, Tree::Nodes, node)?.found() else {
+        return Ok(None);
+    };
+    let data = listed(entry).data;
+    if data == 0 {
+        return Ok(Some(0));
+    }
+    let blocks = data_blocks(image, &header, data)?;
+    let needed = blocks.iter().map(|block| block.stored.len()).sum();
+    let mut rest = out.get_mut(..needed).ok_or(Refusal::short(needed))?;
+    for block in blocks {
+        let (own, behind) = rest.split_at_mut(block.stored.len());
+        block.decode_into(header.method, own)?;
+        rest = behind;
+    }
+    Ok(Some(needed))
+}
+
+fn listed(entry: &[u8]) -> Node {
+    Node {
+        node: u32_at(entry, 0),
+        data: u64_at(entry, 8),
+        subnode: u64_at(entry, 16),
+        parent: u32_at(entry, 24),
+    }
+}
+
+/// The blocks whose bytes, one behind the other, are the node's data; each has been tested.
+fn data_blocks<'a>(image: &'a [u8], header: &Header, data: u64) -> Answer<Vec<Tested<'a>>> {
+    let root = Tested::new(image, header, data)?;
+    if !is_internal(data) {
+        return Ok(vec![root]);
+    }
+    let place = root.listed.offset;
+    let numbers = child_numbers(root.stored).ok_or(Refusal::new(16, place))?;
+    let children = numbers
+        .map(|number| Tested::new(image, header, number))
+        .collect::<Answer<Vec<_>>>()?;
+    let sum: usize = children.iter().map(|child| child.stored.len()).sum();
+    demand(sum as u64 == u64::from(u32_at(root.stored, 4)), 16, place)?;
+    Ok(children)
+}
+
+/// None where the shape is wrong by its own bytes.
+fn child_numbers(tree: &[u8]) -> Option<impl Iterator<Item = u64> + '_> {
+    if tree.len() < 8 {
+        return None;
+    }
+    let count = usize::from(u16_at(tree, 2));
+    let shaped = tree[0] == 1
+        && tree[1] == 1
+        && (1..=MOST_CHILDREN).contains(&count)
+        && tree.len() == 8 + 8 * count;
+    let numbers = tree[8..].chunks_exact(8).map(|child| u64_at(child, 0));
+    (shaped && !numbers.clone().any(is_internal)).then_some(numbers)
+}

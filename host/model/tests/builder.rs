@@ -1,0 +1,180 @@
+//! Every built image is accepted, and everything placed in it is read back.
+
+use model::build::heaps::{property_context, HeapPlan, PlacedHeap};
+use model::build::{build, build_small, Built, Plan, MOST_SMALL};
+use model::random::Random;
+use model::{Block, Lookup, Refusal};
+use std::collections::BTreeSet;
+
+fn assert_read_back(built: &Built) {
+    let image = &built.image;
+    assert_eq!(model::check_nodes(image), Ok(()));
+    assert_eq!(model::check_blocks(image), Ok(()));
+    assert_eq!(
+        model::header(image).map(|header| header.method),
+        Ok(built.method)
+    );
+    for node in &built.nodes {
+        let number = u64::from(node.node) | 5 << 32;
+        assert_eq!(
+            model::find_node(image, number).map(Lookup::found),
+            Ok(Some(*node))
+        );
+        let data = built.data(node);
+        let mut out = vec![0; data.len()];
+        assert_eq!(
+            model::read_node(image, number, &mut out),
+            Ok(Some(data.len()))
+        );
+        assert_eq!(out, data);
+    }
+    for placed in &built.blocks {
+        let listed = Block {
+            block: placed.number,
+            offset: placed.offset as u64,
+            size: placed.size,
+            references: placed.references,
+        };
+        assert_eq!(
+            model::find_block(image, placed.number).map(Lookup::found),
+            Ok(Some(listed))
+        );
+        assert_eq!(model::test_block(image, placed.number), Ok(placed.size));
+        let mut out = vec![0; placed.data.len()];
+        assert_eq!(
+            model::read_block(image, placed.number, &mut out),
+            Ok(out.len())
+        );
+        assert_eq!(out, placed.data);
+    }
+    built.heaps.values().for_each(assert_heap);
+}
+
+fn assert_heap(heap: &PlacedHeap) {
+    assert_eq!(model::test_heap(&heap.block), Ok(()));
+    for (at, bytes) in heap.items.iter().enumerate() {
+        let item = model::item(&heap.block, (at as u32 + 1) << 5).expect("an item");
+        assert_eq!(
+            &heap.block[item.start..item.start + item.length],
+            &bytes[..]
+        );
+    }
+    for id in 0..=u16::MAX {
+        let expected = heap.properties.get(&id).copied();
+        assert_eq!(
+            model::find_property(&heap.block, id),
+            Ok(expected),
+            "id {id:x}"
+        );
+    }
+}
+
+fn assert_listing(built: &Built) {
+    let mut listed = Vec::new();
+    let mut from = 0;
+    while let Some(node) = model::next_node(&built.image, from)
+        .expect("a list")
+        .found()
+    {
+        listed.push(node);
+        if node.node == u32::MAX {
+            break;
+        }
+        from = u64::from(node.node) + 1;
+    }
+    assert_eq!(listed, built.nodes);
+    let mut numbers = BTreeSet::new();
+    let mut from = Some(0);
+    while let Some(block) = from.and_then(|from| {
+        model::next_block(&built.image, from)
+            .expect("a list")
+            .found()
+    }) {
+        numbers.insert(block.block);
+        from = block.block.checked_add(1);
+    }
+    assert_eq!(
+        numbers,
+        built.blocks.iter().map(|block| block.number).collect()
+    );
+}
+
+#[test]
+fn small_images() {
+    for seed in 0..300 {
+        let built = build_small(seed);
+        assert!(built.image.len() <= MOST_SMALL);
+        assert_read_back(&built);
+        assert_listing(&built);
+        assert_eq!(built.image, build_small(seed).image);
+    }
+}
+
+#[test]
+fn every_depth() {
+    for level in 0..=7 {
+        let plan = Plan {
+            method: level % 3,
+            node_level: level,
+            block_level: 7 - level,
+            block_nodes: 3,
+            most_size: 100,
+            ..Plan::default()
+        };
+        let built = build(u64::from(level), &plan);
+        assert_read_back(&built);
+        let Ok(Lookup::Found { pages, .. }) =
+            model::find_node(&built.image, u64::from(built.nodes[0].node))
+        else {
+            panic!("the first node is absent");
+        };
+        assert_eq!(pages, u64::from(level) + 1);
+    }
+}
+
+#[test]
+fn empty_trees() {
+    let built = build(1, &Plan::default());
+    assert_read_back(&built);
+    assert_eq!(
+        model::find_node(&built.image, 33),
+        Ok(Lookup::Absent { pages: 1 })
+    );
+    assert_eq!(
+        model::next_block(&built.image, 0),
+        Ok(Lookup::Absent { pages: 1 })
+    );
+    assert_eq!(model::test_block(&built.image, 4), Err(Refusal::new(12, 0)));
+}
+
+#[test]
+fn large_image() {
+    let plan = Plan {
+        method: 2,
+        block_nodes: 400,
+        tree_nodes: 2,
+        most_size: 8176,
+        most_children: 1021,
+        property_nodes: 5,
+        properties: 60,
+        tidy: true,
+        ..Plan::default()
+    };
+    assert_read_back(&build(3, &plan));
+}
+
+#[test]
+fn property_contexts() {
+    let mut random = Random::new(9);
+    for index_levels in 0..=3 {
+        for properties in [0, 1, 2, 30, 400] {
+            let plan = HeapPlan {
+                index_levels,
+                properties,
+                most_value: 20,
+                tidy: properties == 30,
+            };
+            assert_heap(&property_context(&mut random, plan));
+        }
+    }
+}
