@@ -11,8 +11,9 @@ use lib.ListN.{length}
 use borrow.Author.Tests.{leb-true, eqb-true, le-leb, eq-eqb}
 use Rattle.laws.proofs.Tests.{and-both, both-and}
 use Rattle.le.specs.Bytes.{littleEndian, byte, field, part}
-use Rattle.le.proofs.FieldLaws.{part-part, byte-part}
-use Rattle.crc.specs.Checksum.{checksum}
+use Rattle.le.proofs.FieldLaws.{part-part, part-append, byte-part}
+use Rattle.crc.specs.Checksum.{checksum, checksumFrom}
+use Rattle.crc.proofs.ChecksumLaws.{checksum-append}
 use Rattle.refusal.specs.declared.Refusal.{Refusal}
 use Rattle.refusal.specs.declared.Verdict.the-variants.{Accepted, Refused}
 use Rattle.refusal.specs.Order.{_then_, inOrder, AllHold, none, both, FirstFault}
@@ -32,6 +33,11 @@ marks-long image e = long-enough image (demanded _ _ (then-left _ _ e))
 pub header-is : (image : List ℕ) → headerFits image ≡ (inOrder (markRules image) then inOrder (sealRules image))
 unfolding headerFits
 header-is image = in-order-append (markRules image) (sealRules image)
+
+-- the second checksum goes on from the first
+pub sum-goes-on : (image : List ℕ) → checksum (part image 8 516) ≡ checksumFrom (checksum (part image 8 471)) (part image 479 45)
+unfolding checksum
+sum-goes-on image = ap (checksumFrom 0) (part-append image 8 471 45) ∙ checksum-append 0 (part image 8 471) (part image 479 45)
 
 -- the file ends inside the image
 pub end-inside : (image : List ℕ) → fileEnd image ≤ length image

@@ -4,9 +4,12 @@ use refusal::Refusal;
 use refusal::Verdict;
 ghost use mathlib.Core.Path.{_≡_};
 ghost use Prim.Native.Nat.{_+_, _≤_};
+ghost use lib.Dec.{eqb};
 ghost use lib.ListN.{length};
+ghost use Rattle.le.specs.Bytes.{part, field};
+ghost use Rattle.crc.specs.Checksum.{checksum};
 ghost use Rattle.refusal.specs.Order.{inOrder};
-ghost use Rattle.header.specs.Header.{lengthFits, magicFits, clientFits, versionFits, checksumFits, sentinelFits, encodingFits, markRules, sealRules, headerFits, referenceAt, headerOf, fileEnd};
+ghost use Rattle.header.specs.Header.{lengthFits, magicFits, clientFits, versionFits, sentinelFits, encodingFits, markRules, sealRules, headerFits, referenceAt, headerOf, fileEnd};
 
 // A page as the header refers to it.
 pub struct Reference {
@@ -52,12 +55,28 @@ fn version_fits(image: &[u8]) -> bool
     le::field2(image, 10) == 23
 }
 
-// The checksum of so many bytes from 8 stands at the place.
-fn checksum_fits(image: &[u8], place: usize, size: usize) -> bool
-    requires { ⌜ (564 ≤ length (now image)) × (place + 4 ≤ 564) × (8 + size ≤ 564) ⌝ }
-    ensures { λ r. ⌜ r ≡ checksumFits (now (image .entry)) place size ⌝ }
+// The checksum of 471 bytes from 8.
+fn partial_sum(image: &[u8]) -> u32
+    requires { ⌜ 564 ≤ length (now image) ⌝ }
+    ensures { λ r. ⌜ r ≡ checksum (part (now (image .entry)) 8 471) ⌝ }
 {
-    le::field4(image, place) == crc::checksum(&image[8..8 + size])
+    crc::checksum(&image[8..479])
+}
+
+// That of 516 bytes from 8, which goes on from it.
+fn whole_sum(image: &[u8], partial: u32) -> u32
+    requires { ⌜ (564 ≤ length (now image)) × (partial ≡ checksum (part (now image) 8 471)) ⌝ }
+    ensures { λ r. ⌜ r ≡ checksum (part (now (image .entry)) 8 516) ⌝ }
+{
+    crc::checksum_from(partial, &image[479..524])
+}
+
+// Whether the sum stands at the place.
+fn sum_stands(image: &[u8], place: usize, sum: u32) -> bool
+    requires { ⌜ (564 ≤ length (now image)) × (place + 4 ≤ 564) ⌝ }
+    ensures { λ r. ⌜ r ≡ eqb (field (now (image .entry)) place 4) sum ⌝ }
+{
+    le::field4(image, place) == sum
 }
 
 fn sentinel_fits(image: &[u8]) -> bool
@@ -98,10 +117,11 @@ fn check_seals(image: &[u8]) -> Verdict
     requires { ⌜ 564 ≤ length (now image) ⌝ }
     ensures { λ r. ⌜ r ≡ inOrder (sealRules (now (image .entry))) ⌝ }
 {
-    if !checksum_fits(image, 4, 471) {
+    let partial = partial_sum(image);
+    if !sum_stands(image, 4, partial) {
         return refusal::refused_at(Fault::HeaderChecksum, 4);
     }
-    if !checksum_fits(image, 524, 516) {
+    if !sum_stands(image, 524, whole_sum(image, partial)) {
         return refusal::refused_at(Fault::HeaderChecksum, 524);
     }
     if !sentinel_fits(image) {

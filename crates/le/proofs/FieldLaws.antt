@@ -91,3 +91,13 @@ pub power-downward : (i width : ℕ) → 0 < i → i ≤ width → 256 ^ (width 
 power-downward i width some inside =
     let w : width - (i - 1) ≡ suc (width - i) = omega arith in
     ap (λ (k : ℕ). 256 ^ k) w ∙ pow-suc 256 (width - i) ∙ mul-comm (256 ^ (width - i)) 256
+
+-- two parts, one right behind the other
+take-both : (m n : ℕ) (s : List ℕ) → take (m + n) s ≡ take m s ++ take n (drop m s)
+take-both zero n s = ap (λ (k : ℕ). take k s) (zero-add n)
+take-both (suc m) n [] = take-nil (suc m + n) ∙ sym (take-nil n)
+take-both (suc m) n (b ∷ s) = ap (λ (k : ℕ). take k (b ∷ s)) (suc-add m n) ∙ ap (λ (t : List ℕ). b ∷ t) (take-both m n s)
+
+pub part-append : (s : List ℕ) (place m n : ℕ) → part s place (m + n) ≡ part s place m ++ part s (place + m) n
+unfolding part
+part-append s place m n = take-both m n (drop place s) ∙ ap (λ (t : List ℕ). take m (drop place s) ++ take n t) (drop-drop m place s)

@@ -1,41 +1,42 @@
-use mathlib.Core.Path.{_≡_, sym, _∙_}
+use mathlib.Core.Path.{_≡_, sym, ap, _∙_}
+use lib.Dec.{eqb}
 use Rattle.laws.proofs.Tests.{fails, holds}
 use Rattle.refusal.specs.Order.{none, both, here, later}
 use Rattle.refusal.proofs.OrderLaws.{accepted-exactly, refused-exactly}
-use Rattle.header.specs.Header.{sealRules}
+use Rattle.header.specs.Header.{checksumFits, sealRules}
 use borrow.Author.Needs.{needs}
 use Rattle.header.proofs.check_seals.Statement.{statement}
 use Rattle.header.proofs.check_seals.Tie as tie
 
 returns : tie.Need-returns
-unfolding sealRules
+unfolding sealRules checksumFits
 returns c =
     let d1 = c .before in
-    c .refused-at .ensures ∙ sym (refused-exactly _ _ .1 (here (fails _ _ (d1 .before .checksum-fits .ensures) (d1 .if1 .taken))))
+    c .refused-at .ensures ∙ sym (refused-exactly _ _ .1 (here (fails _ _ (d1 .before .sum-stands .ensures ∙ ap (eqb _) (d1 .before .before .partial-sum .ensures)) (d1 .if1 .taken))))
 
 returns-2 : tie.Need-returns-2
-unfolding sealRules
+unfolding sealRules checksumFits
 returns-2 c =
-    let d2 = c .before in let d1 = d2 .before .before in
-    c .refused-at2 .ensures ∙ sym (refused-exactly _ _ .1 (later (holds _ _ (d1 .before .checksum-fits .ensures) (d1 .if1 .left)) (here (fails _ _ (d2 .before .checksum-fits2 .ensures) (d2 .if2 .taken)))))
+    let d2 = c .before in let d1 = d2 .before .before .before in
+    c .refused-at2 .ensures ∙ sym (refused-exactly _ _ .1 (later (holds _ _ (d1 .before .sum-stands .ensures ∙ ap (eqb _) (d1 .before .before .partial-sum .ensures)) (d1 .if1 .left)) (here (fails _ _ (d2 .before .sum-stands2 .ensures ∙ ap (eqb _) (d2 .before .before .whole-sum .ensures)) (d2 .if2 .taken)))))
 
 returns-3 : tie.Need-returns-3
-unfolding sealRules
+unfolding sealRules checksumFits
 returns-3 c =
-    let d3 = c .before in let d2 = d3 .before .before in let d1 = d2 .before .before in
-    c .refused-at3 .ensures ∙ sym (refused-exactly _ _ .1 (later (holds _ _ (d1 .before .checksum-fits .ensures) (d1 .if1 .left)) (later (holds _ _ (d2 .before .checksum-fits2 .ensures) (d2 .if2 .left)) (here (fails _ _ (d3 .before .sentinel-fits .ensures) (d3 .if3 .taken))))))
+    let d3 = c .before in let d2 = d3 .before .before in let d1 = d2 .before .before .before in
+    c .refused-at3 .ensures ∙ sym (refused-exactly _ _ .1 (later (holds _ _ (d1 .before .sum-stands .ensures ∙ ap (eqb _) (d1 .before .before .partial-sum .ensures)) (d1 .if1 .left)) (later (holds _ _ (d2 .before .sum-stands2 .ensures ∙ ap (eqb _) (d2 .before .before .whole-sum .ensures)) (d2 .if2 .left)) (here (fails _ _ (d3 .before .sentinel-fits .ensures) (d3 .if3 .taken))))))
 
 returns-4 : tie.Need-returns-4
-unfolding sealRules
+unfolding sealRules checksumFits
 returns-4 c =
-    let d4 = c .before in let d3 = d4 .before .before in let d2 = d3 .before .before in let d1 = d2 .before .before in
-    c .refused-at4 .ensures ∙ sym (refused-exactly _ _ .1 (later (holds _ _ (d1 .before .checksum-fits .ensures) (d1 .if1 .left)) (later (holds _ _ (d2 .before .checksum-fits2 .ensures) (d2 .if2 .left)) (later (holds _ _ (d3 .before .sentinel-fits .ensures) (d3 .if3 .left)) (here (fails _ _ (d4 .before .encoding-fits .ensures) (d4 .if4 .taken)))))))
+    let d4 = c .before in let d3 = d4 .before .before in let d2 = d3 .before .before in let d1 = d2 .before .before .before in
+    c .refused-at4 .ensures ∙ sym (refused-exactly _ _ .1 (later (holds _ _ (d1 .before .sum-stands .ensures ∙ ap (eqb _) (d1 .before .before .partial-sum .ensures)) (d1 .if1 .left)) (later (holds _ _ (d2 .before .sum-stands2 .ensures ∙ ap (eqb _) (d2 .before .before .whole-sum .ensures)) (d2 .if2 .left)) (later (holds _ _ (d3 .before .sentinel-fits .ensures) (d3 .if3 .left)) (here (fails _ _ (d4 .before .encoding-fits .ensures) (d4 .if4 .taken)))))))
 
 returns-5 : tie.Need-returns-5
-unfolding sealRules
+unfolding sealRules checksumFits
 returns-5 c =
-    let d4 = c in let d3 = d4 .before .before in let d2 = d3 .before .before in let d1 = d2 .before .before in
-    sym (accepted-exactly (sealRules _) .1 (both (holds _ _ (d1 .before .checksum-fits .ensures) (d1 .if1 .left)) (both (holds _ _ (d2 .before .checksum-fits2 .ensures) (d2 .if2 .left)) (both (holds _ _ (d3 .before .sentinel-fits .ensures) (d3 .if3 .left)) (both (holds _ _ (d4 .before .encoding-fits .ensures) (d4 .if4 .left)) none)))))
+    let d4 = c in let d3 = d4 .before .before in let d2 = d3 .before .before in let d1 = d2 .before .before .before in
+    sym (accepted-exactly (sealRules _) .1 (both (holds _ _ (d1 .before .sum-stands .ensures ∙ ap (eqb _) (d1 .before .before .partial-sum .ensures)) (d1 .if1 .left)) (both (holds _ _ (d2 .before .sum-stands2 .ensures ∙ ap (eqb _) (d2 .before .before .whole-sum .ensures)) (d2 .if2 .left)) (both (holds _ _ (d3 .before .sentinel-fits .ensures) (d3 .if3 .left)) (both (holds _ _ (d4 .before .encoding-fits .ensures) (d4 .if4 .left)) none)))))
 
 pub check-seals-spec : {M : Type 1} → statement M
 check-seals-spec =
@@ -43,7 +44,9 @@ check-seals-spec =
     (tie.spec
     (λ c κs. search needs)
     (λ c κs. search needs)
+    (λ c κs. search needs)
     returns
+    (λ c κs. search needs)
     (λ c κs. search needs)
     (λ c κs. search needs)
     returns-2
