@@ -109,27 +109,30 @@ accepted-placed t image b e = first (accepted-exactly (blockRules t image b) .0 
 pub block-inside : (t : Trailer) (image : List ℕ) (b : Listed) → blockFits t image b ≡ Accepted → b .offset + b .size ≤ length image
 block-inside t image b e = omega (arith, room-inside t image b (accepted-placed t image b e), room-holds t (b .size))
 
--- a block that was looked up, and then tested
-module _ (image : List ℕ) (number : ℕ) where
-  pub tested-accepted : (b : Listed) (n : ℕ) (t : Trailer) (v : Verdict) → blockOf image number ≡ block.Found b n → t ≡ trailer64 → v ≡ blockFits t image b → v ≡ Accepted
-      → checked.Block b ≡ checkedBlock image number
-  unfolding checkedBlock testedBy
-  tested-accepted b n t v f w e q =
-      sym (ap (testedBy (blockFits trailer64 image)) f ∙ goes checked.Refused _ _ (sym (e ∙ ap (λ (x : Trailer). blockFits x image b) w) ∙ q))
+-- what was found, and then tested
+module _ (image : List ℕ) (f : FoundBlock) where
+  abbrev tested : Checked
+  tested = testedBy (blockFits trailer64 image) f
 
-  pub tested-refused : (b : Listed) (n : ℕ) (t : Trailer) (v : Verdict) (r : Refusal) → blockOf image number ≡ block.Found b n → t ≡ trailer64 → v ≡ blockFits t image b → v ≡ Refused r
-      → checked.Refused r ≡ checkedBlock image number
-  unfolding checkedBlock testedBy
-  tested-refused b n t v r f w e q =
-      sym (ap (testedBy (blockFits trailer64 image)) f ∙ ends checked.Refused _ _ r (sym (e ∙ ap (λ (x : Trailer). blockFits x image b) w) ∙ q))
+  pub tested-accepted : (b : Listed) (n : ℕ) (t : Trailer) (v : Verdict) → f ≡ block.Found b n → t ≡ trailer64 → v ≡ blockFits t image b → v ≡ Accepted
+      → checked.Block b ≡ tested
+  unfolding testedBy
+  tested-accepted b n t v g w e q =
+      sym (ap (testedBy (blockFits trailer64 image)) g ∙ goes checked.Refused _ _ (sym (e ∙ ap (λ (x : Trailer). blockFits x image b) w) ∙ q))
 
-  pub unlisted : (n : ℕ) → blockOf image number ≡ block.Absent n → checked.Refused (BlockUnlisted at 0) ≡ checkedBlock image number
-  unfolding checkedBlock testedBy
-  unlisted n f = sym (ap (testedBy (blockFits trailer64 image)) f)
+  pub tested-refused : (b : Listed) (n : ℕ) (t : Trailer) (v : Verdict) (r : Refusal) → f ≡ block.Found b n → t ≡ trailer64 → v ≡ blockFits t image b → v ≡ Refused r
+      → checked.Refused r ≡ tested
+  unfolding testedBy
+  tested-refused b n t v r g w e q =
+      sym (ap (testedBy (blockFits trailer64 image)) g ∙ ends checked.Refused _ _ r (sym (e ∙ ap (λ (x : Trailer). blockFits x image b) w) ∙ q))
 
-  pub lookup-refused : (r : Refusal) → blockOf image number ≡ block.Refused r → checked.Refused r ≡ checkedBlock image number
-  unfolding checkedBlock testedBy
-  lookup-refused r f = sym (ap (testedBy (blockFits trailer64 image)) f)
+  pub unlisted : (n : ℕ) → f ≡ block.Absent n → checked.Refused (BlockUnlisted at 0) ≡ tested
+  unfolding testedBy
+  unlisted n g = sym (ap (testedBy (blockFits trailer64 image)) g)
+
+  pub lookup-refused : (r : Refusal) → f ≡ block.Refused r → checked.Refused r ≡ tested
+  unfolding testedBy
+  lookup-refused r g = sym (ap (testedBy (blockFits trailer64 image)) g)
 
 unblock : (d b : Listed) → checked.Block d ≡ checked.Block b → d ≡ b
 unblock d b p = cc
@@ -163,12 +166,14 @@ unfolding checkedBlock
 checked-same image number b d n e g = same-by image (blockOf image number) b d n e g
 
 pub checked-not-absent : (image : List ℕ) (number : ℕ) (b : Listed) (n : ℕ) → checkedBlock image number ≡ checked.Block b → blockOf image number ≡ block.Absent n → ⊥
+unfolding checkedBlock
 checked-not-absent image number b n e g =
-    let other = unlisted image number n g in let clash : _≡_ {A = ℕ} 0 1 = cc in omega arith
+    let other = unlisted image (blockOf image number) n g in let clash : _≡_ {A = ℕ} 0 1 = cc in omega arith
 
 pub checked-not-refused : (image : List ℕ) (number : ℕ) (b : Listed) (r : Refusal) → checkedBlock image number ≡ checked.Block b → blockOf image number ≡ block.Refused r → ⊥
+unfolding checkedBlock
 checked-not-refused image number b r e g =
-    let other = lookup-refused image number r g in let clash : _≡_ {A = ℕ} 0 1 = cc in omega arith
+    let other = lookup-refused image (blockOf image number) r g in let clash : _≡_ {A = ℕ} 0 1 = cc in omega arith
 
 pub checked-inside : (image : List ℕ) (number : ℕ) (b : Listed) → checkedBlock image number ≡ checked.Block b → b .offset + b .size ≤ length image
 checked-inside image number b e = block-inside trailer64 image b (checked-fits image number b e)

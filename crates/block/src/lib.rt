@@ -10,8 +10,9 @@ ghost use Prim.Native.Nat.{_+_, _≤_};
 ghost use lib.ListN.{length};
 ghost use Rattle.le.specs.Bytes.{byte};
 ghost use Rattle.refusal.specs.Order.{inOrder};
+ghost use Rattle.header.specs.Header.{headerFits};
 ghost use Rattle.block.specs.Sound.{FairTrailer};
-ghost use Rattle.block.specs.Block.{trailer64, roomFor, room as roomOf, placeFits, trailerFits, sumFits, bytesRules, blockFits, checkedBlock, sizeIn, testOf, internal, plain, fronted, blockBytes, readOf, filledOf};
+ghost use Rattle.block.specs.Block.{trailer64, roomFor, room as roomOf, placeFits, trailerFits, sumFits, bytesRules, blockFits, testedBy, checkedBlock, sizeIn, testOf, internal, plain, fronted, blockBytes, readOf, filledOf};
 
 // Where a block's trailer has its fields, and how much data a block has at most.
 pub struct Trailer {
@@ -128,11 +129,10 @@ fn test_listed(image: &[u8], t: Trailer, b: Listed) -> Verdict
     test_bytes(t, b, &image[start..start + length], &image[at..at + size])
 }
 
-// A block that is looked up and tested: 12 to 15 after what the lookup refuses.
-pub fn check_block(image: &[u8], block: u64) -> Checked
-    ensures { λ r. ⌜ r ≡ checkedBlock (now (image .entry)) block ⌝ }
+// What a lookup found, tested: 12 to 15 after what the lookup refuses.
+fn test_found(image: &[u8], found: FoundBlock) -> Checked
+    ensures { λ r. ⌜ r ≡ testedBy (blockFits trailer64 (now (image .entry))) found ⌝ }
 {
-    let found = tree::find_block(image, block);
     match found {
         FoundBlock::Found(b, _) => {
             let verdict = test_listed(image, wide_trailer(), b);
@@ -148,6 +148,21 @@ pub fn check_block(image: &[u8], block: u64) -> Checked
         }),
         FoundBlock::Refused(refusal) => Checked::Refused(refusal),
     }
+}
+
+// A block that is looked up and tested.
+pub fn check_block(image: &[u8], block: u64) -> Checked
+    ensures { λ r. ⌜ r ≡ checkedBlock (now (image .entry)) block ⌝ }
+{
+    test_found(image, tree::find_block(image, block))
+}
+
+// The same in an image whose header is accepted.
+pub fn check_block_in(image: &[u8], block: u64) -> Checked
+    requires { ⌜ headerFits (now image) ≡ Verdict.Accepted ⌝ }
+    ensures { λ r. ⌜ r ≡ checkedBlock (now (image .entry)) block ⌝ }
+{
+    test_found(image, tree::find_block_in(image, block))
 }
 
 pub fn test_block(image: &[u8], block: u64) -> Sized

@@ -2,6 +2,7 @@
 use block::Checked;
 use refusal::Fault;
 use refusal::Refusal;
+use refusal::Verdict;
 use tree::FoundBlock;
 use tree::FoundNode;
 use tree::Listed;
@@ -11,6 +12,7 @@ ghost use Prim.Native.Nat.{_+_, _*_, _≤_, _<_};
 ghost use lib.ListN.{length};
 ghost use Rattle.refusal.specs.Order.{_at_, _needing_};
 ghost use Rattle.keys.specs.Search.{joined};
+ghost use Rattle.header.specs.Header.{headerFits};
 ghost use Rattle.block.specs.Block.{checkedBlock, blockBytes, fronted, internal};
 ghost use Rattle.node.specs.Content.{numberAt, numbersFrom, noneInternal, shapeFits, countIn, kidsOf, treeContent, blockContent, dataOf, nodeContent, answerTo, filledBy};
 ghost use Rattle.node.specs.Content.{bytes as bytesOf};
@@ -84,13 +86,13 @@ fn refused_measure(checked: Checked) -> Measured
 
 // The children of a data tree, each looked up and tested in turn.
 fn measure(image: &[u8], root: &[u8], count: usize) -> Measured
-    requires { ⌜ (8 + 8 * count ≤ length (now root)) × (count ≤ 1021) ⌝ }
+    requires { ⌜ (8 + 8 * count ≤ length (now root)) × (count ≤ 1021) × (headerFits (now image) ≡ Verdict.Accepted) ⌝ }
     ensures { λ r. ⌜ r ≡ measuredIn (kidsOf (now (image .entry)) (numbersFrom (now (root .entry)) 0 count)) ⌝ }
 {
     let mut sum: u64 = 0;
     let mut i: usize = 0;
     while i < count {
-        let checked = block::check_block(image, number_at(root, i));
+        let checked = block::check_block_in(image, number_at(root, i));
         let Checked::Block(b) = checked else {
             return refused_measure(checked);
         };
@@ -103,7 +105,7 @@ fn measure(image: &[u8], root: &[u8], count: usize) -> Measured
 // The block that is listed under a number whose tests have passed. The last two arms are never
 // reached: a second lookup of the number finds the same block.
 fn listed_at(image: &[u8], number: u64) -> Listed
-    requires { ⌜ IsListed (now image) number ⌝ }
+    requires { ⌜ IsListed (now image) number × (headerFits (now image) ≡ Verdict.Accepted) ⌝ }
     ensures { λ r. ⌜ checkedBlock (now (image .entry)) number ≡ Checked.Block r ⌝ }
 {
     let nothing = Listed {
@@ -112,7 +114,7 @@ fn listed_at(image: &[u8], number: u64) -> Listed
         size: 0,
         references: 0,
     };
-    let found = tree::find_block(image, number);
+    let found = tree::find_block_in(image, number);
     match found {
         FoundBlock::Found(b, _) => b,
         FoundBlock::Absent(_) => nothing,
@@ -122,7 +124,7 @@ fn listed_at(image: &[u8], number: u64) -> Listed
 
 // The children's bytes, each right behind those of the child before.
 fn gather(image: &[u8], root: &[u8], count: usize, out: &mut [u8])
-    requires { ⌜ (8 + 8 * count ≤ length (now root)) × (count ≤ 1021) × AllListed (now image) (numbersFrom (now root) 0 count) ⌝ }
+    requires { ⌜ (8 + 8 * count ≤ length (now root)) × (count ≤ 1021) × AllListed (now image) (numbersFrom (now root) 0 count) × (headerFits (now image) ≡ Verdict.Accepted) ⌝ }
     requires { ⌜ length (joined (bytesAt (now image)) (numbersFrom (now root) 0 count)) ≤ length (now out) ⌝ }
     ensures { λ _. ⌜ now (out .exit) ≡ fronted (joined (bytesAt (now (image .entry))) (numbersFrom (now (root .entry)) 0 count)) (now (out .entry)) ⌝ }
 {
@@ -182,6 +184,7 @@ fn refused_sum(measured: Measured) -> NodeRead
 // The data is a data tree with the root block's bytes as stored: its shape, its children in turn, the
 // sum, 17, and then the bytes.
 fn read_root(image: &[u8], root: &[u8], offset: u64, out: &mut [u8]) -> NodeRead
+    requires { ⌜ headerFits (now image) ≡ Verdict.Accepted ⌝ }
     ensures answer { λ r. ⌜ r ≡ answerTo (treeContent (now (image .entry)) offset (now (root .entry))) (length (now (out .entry))) ⌝ }
     ensures buffer { λ _. ⌜ now (out .exit) ≡ filledBy (treeContent (now (image .entry)) offset (now (root .entry))) (now (out .entry)) ⌝ }
 {
@@ -205,7 +208,7 @@ fn read_root(image: &[u8], root: &[u8], offset: u64, out: &mut [u8]) -> NodeRead
 
 // The data of a listed block that has passed its tests.
 fn read_listed(image: &[u8], b: Listed, out: &mut [u8]) -> NodeRead
-    requires { ⌜ (564 ≤ length (now image)) × (b .offset + b .size ≤ length (now image)) ⌝ }
+    requires { ⌜ (564 ≤ length (now image)) × (b .offset + b .size ≤ length (now image)) × (headerFits (now image) ≡ Verdict.Accepted) ⌝ }
     ensures answer { λ r. ⌜ r ≡ answerTo (blockContent (now (image .entry)) b) (length (now (out .entry))) ⌝ }
     ensures buffer { λ _. ⌜ now (out .exit) ≡ filledBy (blockContent (now (image .entry)) b) (now (out .entry)) ⌝ }
 {
@@ -228,13 +231,14 @@ fn refused_data(checked: Checked) -> NodeRead
 
 // The data under a data block number: none under 0.
 fn read_data(image: &[u8], number: u64, out: &mut [u8]) -> NodeRead
+    requires { ⌜ headerFits (now image) ≡ Verdict.Accepted ⌝ }
     ensures answer { λ r. ⌜ r ≡ answerTo (dataOf (now (image .entry)) number) (length (now (out .entry))) ⌝ }
     ensures buffer { λ _. ⌜ now (out .exit) ≡ filledBy (dataOf (now (image .entry)) number) (now (out .entry)) ⌝ }
 {
     if number == 0 {
         return NodeRead::Length(0);
     }
-    let checked = block::check_block(image, number);
+    let checked = block::check_block_in(image, number);
     let Checked::Block(b) = checked else {
         return refused_data(checked);
     };
@@ -252,7 +256,7 @@ fn gone(found: FoundNode) -> NodeRead
     }
 }
 
-// Node lookup, then its data block. No byte is written before the last test has passed.
+// Node lookup, then its data block. The header is tested once, with the node. No byte is written before the last test has passed.
 pub fn read_node(image: &[u8], node: u64, out: &mut [u8]) -> NodeRead
     ensures answer { λ r. ⌜ r ≡ answerTo (nodeContent (now (image .entry)) node) (length (now (out .entry))) ⌝ }
     ensures buffer { λ _. ⌜ now (out .exit) ≡ filledBy (nodeContent (now (image .entry)) node) (now (out .entry)) ⌝ }

@@ -18,15 +18,17 @@ use Rattle.header.specs.Header.{headerFits}
 use Rattle.page.specs.declared.Layout.{Layout}
 use Rattle.page.specs.declared.Level.the-variants.{Exactly}
 use Rattle.page.specs.declared.Link.{Link}
-use Rattle.page.specs.Layout.{compared}
+use Rattle.page.specs.Layout.{nbt, compared}
 use Rattle.page.specs.Page.{page, levelOf, entries, keyIn, offsetFits, pageFits}
 use Rattle.page.proofs.PageLaws.{page-ends}
 use Rattle.tree.specs.declared.Next.{Next}
 use Rattle.tree.specs.declared.Next.the-variants.{Here, NoMore}
 use Rattle.tree.specs.declared.Found.the-variants.{Entry, Absent}
+use Rattle.tree.specs.declared.Node.{Node}
+use Rattle.tree.specs.declared.FoundNode.the-variants as node
 use Rattle.tree.specs.Tree.{root, rootLevel, children}
 use Rattle.tree.specs.Lookup.{Answer, found, absent, refused, answer, oneMore, low, onward, descend, lookup}
-use Rattle.tree.specs.Answers.{fieldsOf, shown, counted, nextIn}
+use Rattle.tree.specs.Answers.{fieldsOf, shown, asNode, nodeOf, counted, nextIn}
 use Rattle.tree.proofs.Walk.{accepted-level, children-level}
 
 -- what a choice was, by the child or none that is handed on
@@ -129,6 +131,18 @@ descend-out : (L : Layout) (image : List ℕ) (k l : ℕ) (p : Link) → offsetF
 unfolding descend
 descend-out L image k zero p h = ends refused _ _ _ (sym (page-ends L image p h))
 descend-out L image k (suc l) p h = ends refused _ _ _ (sym (page-ends L image p h))
+
+-- a node is found only where the header is accepted
+pub node-header : (image : List ℕ) (key : ℕ) (d : Node) (n : ℕ) → nodeOf image key ≡ node.Found d n → headerFits image ≡ Accepted
+unfolding nodeOf lookup asNode shown
+node-header image key d n e = by (headerFits image) refl
+  where
+    by : (v : Verdict) → headerFits image ≡ v → v ≡ Accepted
+    by Accepted v = refl
+    by (Refused r) v =
+        let other = ap (λ (a : Answer). asNode (shown nbt a)) (ends refused _ (descend nbt image (compared nbt key) (rootLevel nbt image) (root nbt image)) r v) in
+        let clash : _≡_ {A = ℕ} 0 1 = cc in
+        absurd (omega arith)
 
 module _ (L : Layout) (image : List ℕ) (key : ℕ) (v : Verdict) (header-is : v ≡ headerFits image) where
   pub lookup-refused : (r : Refusal) → v ≡ Refused r → refused r ≡ lookup L image key

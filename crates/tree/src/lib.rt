@@ -19,6 +19,7 @@ ghost use Rattle.le.specs.Bytes.{part};
 ghost use Rattle.keys.specs.Records.{Holds, recordAt};
 ghost use Rattle.keys.specs.Search.{lastAtMost, scanned, choice, start};
 ghost use Rattle.keys.proofs.RecordLaws.{recordsFrom};
+ghost use Rattle.header.specs.Header.{headerFits};
 ghost use Rattle.page.specs.Layout.{Fair, Within, nbt, bbt, shape};
 ghost use Rattle.page.specs.Page.{page, countOf, levelOf, entries, keyIn, offsetFits, countsFit, pageFits};
 ghost use Rattle.tree.specs.Tree.{root, endOf, linkOf, links, children, each, under, treeFits};
@@ -371,6 +372,16 @@ fn check_tree(image: &[u8], l: Layout) -> Verdict
     check_under(image, l, stated_level(image, l, p.offset), p)
 }
 
+// The lookup of a key in an image whose header is accepted.
+fn find_in(image: &[u8], l: Layout, key: u64) -> Found
+    requires { ⌜ Fair l × (headerFits (now image) ≡ Verdict.Accepted) ⌝ }
+    ensures { λ r. ⌜ r ≡ shown l (lookup l (now (image .entry)) key) ⌝ }
+{
+    let p = root_link(image, l);
+    let level = stated_level(image, l, p.offset);
+    look(image, l, level, p, page::compared(l, key), 0)
+}
+
 // The lookup of a key.
 fn find(image: &[u8], l: Layout, key: u64) -> Found
     requires { ⌜ Fair l ⌝ }
@@ -380,9 +391,7 @@ fn find(image: &[u8], l: Layout, key: u64) -> Found
     if let Verdict::Refused(refusal) = verdict {
         return Found::Refused(refusal);
     }
-    let p = root_link(image, l);
-    let level = stated_level(image, l, p.offset);
-    look(image, l, level, p, page::compared(l, key), 0)
+    find_in(image, l, key)
 }
 
 // The first entry from a key on.
@@ -463,6 +472,14 @@ pub fn find_block(image: &[u8], block: u64) -> FoundBlock
     ensures { λ r. ⌜ r ≡ blockOf (now (image .entry)) block ⌝ }
 {
     as_block(find(image, page::blocks(), block))
+}
+
+// The same in an image whose header is accepted, for a call that looks up many blocks.
+pub fn find_block_in(image: &[u8], block: u64) -> FoundBlock
+    requires { ⌜ headerFits (now image) ≡ Verdict.Accepted ⌝ }
+    ensures { λ r. ⌜ r ≡ blockOf (now (image .entry)) block ⌝ }
+{
+    as_block(find_in(image, page::blocks(), block))
 }
 
 pub fn next_block(image: &[u8], from: u64) -> FoundBlock

@@ -1,22 +1,12 @@
-use mathlib.Core.Path.{_≡_, refl, sym, ap, ap₂, _∙_}
-use Rattle.block.proofs.BlockLaws.{fair-trailer, tested-accepted, tested-refused, unlisted, lookup-refused}
+use mathlib.Core.Path.{_≡_, ap, _∙_}
+use Rattle.block.specs.Block.{trailer64, blockFits, testedBy, checkedBlock}
 use borrow.Author.Needs.{needs}
 use Rattle.block.proofs.check_block.Statement.{statement}
 use Rattle.block.proofs.check_block.Tie as tie
 
+returns : tie.Need-returns
+unfolding checkedBlock
+returns c = c .test-found .ensures ∙ ap (testedBy (blockFits trailer64 (c .before .before .before .args .image .now))) (c .before .find-block .ensures)
+
 pub check-block-spec : {M : Type 1} → statement M
-check-block-spec =
-    tie.close
-    (tie.spec
-    (λ c κs. search needs)
-    (λ c. search needs)
-    (λ c κs. search needs)
-    (λ c κs. rw (c .wide-trailer .ensures) fair-trailer)
-    (λ c. search needs)
-    (λ c. search needs)
-    (λ c. search needs)
-    (λ c. search needs)
-    (λ c. tested-accepted _ _ _ _ _ _ (sym (c .before .before .before .before .before .before .before .find-block .ensures) ∙ c .before .before .before .before .before .found .given .1) (c .before .before .before .wide-trailer .ensures) (c .before .before .test-listed .ensures) (c .enum-told .given .1))
-    (λ c. tested-refused _ _ _ _ _ _ _ (sym (c .before .before .before .before .before .before .before .before .find-block .ensures) ∙ c .before .before .before .before .before .before .found .given .1) (c .before .before .before .before .wide-trailer .ensures) (c .before .before .before .test-listed .ensures) (c .before .verdict .given .1))
-    (λ c. unlisted _ _ _ (sym (c .before .before .find-block .ensures) ∙ c .enum-told2 .given .1))
-    (λ c. lookup-refused _ _ _ (sym (c .before .before .before .find-block .ensures) ∙ c .before .found2 .given .1)))
+check-block-spec = tie.close (tie.spec (λ c κs. search needs) (λ c κs. search needs) returns)

@@ -67,7 +67,7 @@ listed-at-requires : tie.Need-listed-at-requires Inv-loop μ-loop
 listed-at-requires c κs =
     let a = c .before .before .before .before .before .before .args in
     let l = c .before .before .loop in
-    subst (IsListed (a .image .now)) (sym (c .number-at .ensures)) (subst (AllListed (a .image .now)) (rest-at (a .root .now) (a .count) (l .i) (omega arith)) (l .inv .3) .0)
+    (subst (IsListed (a .image .now)) (sym (c .number-at .ensures)) (subst (AllListed (a .image .now)) (rest-at (a .root .now) (a .count) (l .i) (omega arith)) (l .inv .3) .0), c .before .before .before .before .before .before .pre .0 .3)
 
 block-into-requires : tie.Need-block-into-requires Inv-loop μ-loop
 block-into-requires c κs =

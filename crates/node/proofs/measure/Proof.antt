@@ -29,7 +29,7 @@ returns c =
     let l = c .before .before .before .before .before .before .loop in
     c .refused-measure .ensures
     ∙ measure-ends (a .image .now) (numberAt (a .root .now) (l .i)) (rest (a .root .now) (a .count) (l .i + 1)) (l .sum) _ _
-    (c .before .before .before .check-block .ensures ∙ ap (checkedBlock (a .image .now)) (c .before .before .before .before .number-at .ensures)) (c .before .enum-told .given .1)
+    (c .before .before .before .check-block-in .ensures ∙ ap (checkedBlock (a .image .now)) (c .before .before .before .before .number-at .ensures)) (c .before .enum-told .given .1)
     ∙ ap (λ (ns : List ℕ). addTo (l .sum) (measuredIn (kidsOf (a .image .now) ns))) (sym (rest-at (a .root .now) (a .count) (l .i) (omega arith)))
     ∙ sym (l .inv .2)
 
@@ -37,17 +37,17 @@ add-sum : tie.Need-add-sum Inv-loop μ-loop
 add-sum c =
     let a = c .before .before .before .before .before .before .before .before .before .before .args in
     let l = c .before .before .before .before .before .before .before .loop in
-    omega (arith, checked-size (a .image .now) _ _ (sym (ap (checkedBlock (a .image .now)) (c .before .before .before .before .before .number-at .ensures)) ∙ sym (c .before .before .before .before .check-block .ensures) ∙ c .before .before .checked .given .1))
+    omega (arith, checked-size (a .image .now) _ _ (sym (ap (checkedBlock (a .image .now)) (c .before .before .before .before .before .number-at .ensures)) ∙ sym (c .before .before .before .before .check-block-in .ensures) ∙ c .before .before .checked .given .1))
 
 loop-again : tie.Need-loop-again Inv-loop μ-loop
 loop-again c =
     let a = c .before .before .before .before .before .before .before .before .before .before .args in
     let l = c .before .before .before .before .before .before .before .loop in (
       omega arith,
-      omega (arith, checked-size (a .image .now) _ _ (sym (ap (checkedBlock (a .image .now)) (c .before .before .before .before .before .number-at .ensures)) ∙ sym (c .before .before .before .before .check-block .ensures) ∙ c .before .before .checked .given .1)),
+      omega (arith, checked-size (a .image .now) _ _ (sym (ap (checkedBlock (a .image .now)) (c .before .before .before .before .before .number-at .ensures)) ∙ sym (c .before .before .before .before .check-block-in .ensures) ∙ c .before .before .checked .given .1)),
       l .inv .2
           ∙ ap (λ (ns : List ℕ). addTo (l .sum) (measuredIn (kidsOf (a .image .now) ns))) (rest-at (a .root .now) (a .count) (l .i) (omega arith))
-          ∙ measure-on (a .image .now) (numberAt (a .root .now) (l .i)) (rest (a .root .now) (a .count) (l .i + 1)) (l .sum) _ (sym (ap (checkedBlock (a .image .now)) (c .before .before .before .before .before .number-at .ensures)) ∙ sym (c .before .before .before .before .check-block .ensures) ∙ c .before .before .checked .given .1),
+          ∙ measure-on (a .image .now) (numberAt (a .root .now) (l .i)) (rest (a .root .now) (a .count) (l .i + 1)) (l .sum) _ (sym (ap (checkedBlock (a .image .now)) (c .before .before .before .before .before .number-at .ensures)) ∙ sym (c .before .before .before .before .check-block-in .ensures) ∙ c .before .before .checked .given .1),
     )
 
 returns-2 : tie.Need-returns-2 Inv-loop μ-loop

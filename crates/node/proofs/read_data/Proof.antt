@@ -15,14 +15,14 @@ returns-2 : tie.Need-returns-2
 returns-2 c =
     let a = c .before .before .before .before .before .before .before .args in
     let told = c .before .enum-told .given .1 in
-    let o = outcome-of _ _ (a .out .now) _ _ (data-refused (a .image .now) (a .number) _ (c .before .before .before .before .if1 .left) (sym (c .before .before .before .check-block .ensures) ∙ told)) (refused-outcome _ (a .out .now)) in
+    let o = outcome-of _ _ (a .out .now) _ _ (data-refused (a .image .now) (a .number) _ (c .before .before .before .before .if1 .left) (sym (c .before .before .before .check-block-in .ensures) ∙ told)) (refused-outcome _ (a .out .now)) in
     (c .refused-data .ensures ∙ refused-read-is _ _ told ∙ o .0, o .1)
 
 returns-3 : tie.Need-returns-3
 returns-3 c =
     let a = c .before .before .before .before .before .before .before .before .before .before .before .args in
     let e = c .before .before .read-listed .ensures in
-    outcome-of _ _ (a .out .now) _ _ (data-block (a .image .now) (a .number) _ (c .before .before .before .before .before .before .before .before .if1 .left) (sym (c .before .before .before .before .before .before .before .check-block .ensures) ∙ c .before .before .before .before .before .checked .given .1)) (e .0, e .1)
+    outcome-of _ _ (a .out .now) _ _ (data-block (a .image .now) (a .number) _ (c .before .before .before .before .before .before .before .before .if1 .left) (sym (c .before .before .before .before .before .before .before .check-block-in .ensures) ∙ c .before .before .before .before .before .checked .given .1)) (e .0, e .1)
 
 pub read-data-spec : {M : Type 1} → statement M
 read-data-spec =
@@ -34,6 +34,6 @@ read-data-spec =
     (λ c. search needs)
     (λ c κs. search needs)
     returns-2
-    (λ c κs. (checked-large _ _ _ (sym (c .before .before .before .before .check-block .ensures) ∙ c .before .before .checked .given .1), checked-inside _ _ _ (sym (c .before .before .before .before .check-block .ensures) ∙ c .before .before .checked .given .1)))
+    (λ c κs. (checked-large _ _ _ (sym (c .before .before .before .before .check-block-in .ensures) ∙ c .before .before .checked .given .1), checked-inside _ _ _ (sym (c .before .before .before .before .check-block-in .ensures) ∙ c .before .before .checked .given .1), c .before .before .before .before .before .before .before .before .pre))
     (λ c. search needs)
     returns-3)

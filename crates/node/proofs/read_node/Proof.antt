@@ -1,4 +1,5 @@
 use mathlib.Core.Path.{_≡_, refl, sym, ap, ap₂, _∙_, subst}
+use Rattle.tree.proofs.Looks.{node-header}
 use Rattle.node.proofs.Outcomes.{outcome-of, node-found, gone-outcome}
 use borrow.Author.Needs.{needs}
 use Rattle.node.proofs.read_node.Statement.{statement}
@@ -24,6 +25,6 @@ read-node-spec =
     (λ c. search needs)
     (λ c κs. search needs)
     returns
-    (λ c κs. search needs)
+    (λ c κs. node-header _ _ _ _ (sym (c .before .before .before .before .find-node .ensures) ∙ c .before .before .found .given .1))
     (λ c. search needs)
     returns-2)

@@ -27,7 +27,7 @@ unfolding countIn
 measure-requires c κs =
     let a = c .before .before .before .before .before .before .args in
     let s = shape-of (a .root .now) (holds _ _ (c .before .before .shape-fits .ensures) (c .before .if1 .left)) in
-    (omega (arith, s .size, c .field2 .ensures), omega (arith, s .few, c .field2 .ensures))
+    (omega (arith, s .size, c .field2 .ensures), omega (arith, s .few, c .field2 .ensures), c .before .before .before .before .before .before .pre)
 
 returns-2 : tie.Need-returns-2
 unfolding countIn
@@ -66,7 +66,7 @@ gather-requires c κs =
     let s = shape-of (a .root .now) (holds _ _ (c .before .before .before .before .before .before .before .before .before .before .shape-fits .ensures) (c .before .before .before .before .before .before .before .before .before .if1 .left)) in
     let p = passed (a .image .now) (a .root .now) (c .before .before .before .before .before .before .before .before .field2 .result) _ (c .before .before .before .before .before .before .before .before .field2 .ensures) (c .before .before .before .before .before .before .before .measure .ensures) _ (c .before .before .before .before .before .measured .given .1) in
     let f = c .before .before .before .before .before .before .before .before .field2 .ensures in
-    ((omega (arith, s .size, f), omega (arith, s .few, f), p .listed), omega (arith, ap length (p .joins), p .long))
+    ((omega (arith, s .size, f), omega (arith, s .few, f), p .listed, c .before .before .before .before .before .before .before .before .before .before .before .before .before .before .pre), omega (arith, ap length (p .joins), p .long))
 
 returns-5 : tie.Need-returns-5
 unfolding countIn

@@ -1,8 +1,5 @@
 use mathlib.Core.Path.{_≡_, refl, sym, ap, _∙_}
-use native.Mathlib.Omega.{arith}
-use Rattle.header.proofs.HeaderLaws.{header-length}
-use Rattle.tree.proofs.Walk.{accepted-offset}
-use Rattle.tree.proofs.Looks.{lookup-refused, lookup-on}
+use Rattle.tree.proofs.Looks.{lookup-refused}
 use Rattle.tree.specs.Answers.{shown}
 use borrow.Author.Needs.{needs}
 use Rattle.tree.proofs.find.Statement.{statement}
@@ -14,18 +11,6 @@ returns c =
     let a = c .before .before .before .before .before .args in
     ap (shown (a .l)) (lookup-refused (a .l) (a .image .now) (a .key) _ (c .before .before .before .check-header .ensures) _ (c .before .verdict .given .1))
 
-look-requires : tie.Need-look-requires
-look-requires c κs =
-    let a = c .before .before .before .before .before .before .before .args in
-    (c .before .before .before .before .before .before .before .pre, (λ ok. sym (c .before .stated-level .ensures .0 (accepted-offset (a .l) (a .image .now) (c .before .before .root-link .result) ok))), omega arith)
-
-returns-2 : tie.Need-returns-2
-returns-2 c =
-    let a = c .before .before .before .before .before .before .before .before .args in
-    c .look .ensures
-    ∙ ap (shown (a .l))
-    (lookup-on (a .l) (a .image .now) (a .key) _ (c .before .before .before .before .before .before .check-header .ensures) _ _ _ (c .before .before .before .before .enum-told .given .1) (c .before .before .before .root-link .ensures) (c .before .compared .ensures) (c .before .before .stated-level .ensures .0))
-
 pub find-spec : {M : Type 1} → statement M
 find-spec =
     tie.close
@@ -34,8 +19,5 @@ find-spec =
     (λ c. search needs)
     returns
     (λ c. search needs)
-    (λ c κs. (c .before .before .before .before .pre, header-length _ (sym (c .before .before .check-header .ensures) ∙ c .enum-told .given .1)))
-    (λ c κs. search needs)
-    (λ c κs. search needs)
-    look-requires
-    returns-2)
+    (λ c κs. (c .before .before .before .before .pre, sym (c .before .before .check-header .ensures) ∙ c .enum-told .given .1))
+    (λ c. c .find-in .ensures))
