@@ -2,7 +2,7 @@
 use mathlib.Core.Path.{_≡_, refl, sym, ap, ap₂, _∙_}
 use mathlib.Core.List.{List, [], _∷_, map}
 use mathlib.Core.Bool.{Bool, true, false, cond}
-use Prim.Native.Nat.{ℕ, suc, _+_, _%_, _<_, _≤_}
+use Prim.Native.Nat.{ℕ, suc, _+_, _/_, _%_, _<_, _≤_}
 use native.Mathlib.Omega.{arith}
 use lib.Dec.{eqb}
 use lib.ListN.{length, length-map}
@@ -11,7 +11,8 @@ use Rattle.refusal.specs.declared.Fault.the-variants.{Encoding}
 use Rattle.refusal.specs.declared.Verdict.the-variants.{Accepted, Refused}
 use Rattle.refusal.specs.Order.{_at_}
 use Rattle.refusal.proofs.OrderLaws.{passes, breaks}
-use Rattle.coding.specs.Coding.{cyclic, word, coded, methodFits}
+use Rattle.coding.specs.Coding.{plus, minus, cyclicByte, cyclic, word, coded, methodFits}
+use Rattle.coding.specs.Table.{R, S, I}
 
 module _ (f : ℕ → ℕ) (method block : ℕ) (s : List ℕ) where
   pub coded-permute : method ≡ 1 → coded f method block s ≡ map f s
@@ -48,3 +49,14 @@ coded-length f method block s = by-method (eqb method 1) (eqb method 2)
     by-method true b = length-map s f
     by-method false true = cyclic-length (word block) s
     by-method false false = refl
+
+-- the steps on one byte, one after the other
+pub cyclic-steps : (w b low high p x q y m z r : ℕ) → low ≡ w % 256 → high ≡ w / 256
+    → p ≡ plus b low → x ≡ R p → q ≡ plus x high → y ≡ S q → m ≡ minus y high → z ≡ I m → r ≡ minus z low → r ≡ cyclicByte w b
+unfolding cyclicByte
+cyclic-steps w b low high p x q y m z r el eh ep ex eq ey em ez er = rw (er, ez, em, ey, eq, ex, ep, eh, el)
+
+-- one byte, and w for the next
+pub cyclic-on : (w b r next : ℕ) (s : List ℕ) → r ≡ cyclicByte w b → next ≡ (w + 1) % 65536 → cyclic w (b ∷ s) ≡ r ∷ cyclic next s
+unfolding cyclic
+cyclic-on w b r next s e g = ap₂ (λ (x v : ℕ). x ∷ cyclic v s) (sym e) (sym g)

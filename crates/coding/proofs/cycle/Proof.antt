@@ -7,6 +7,7 @@ use borrow.Author.Needs.{needs}
 use Rattle.laws.proofs.InPlace.{turn, ended}
 use Rattle.coding.specs.Table.{table}
 use Rattle.coding.specs.Coding.{cyclic}
+use Rattle.coding.proofs.CodingLaws.{cyclic-on}
 use Rattle.coding.proofs.cycle.Statement.{statement}
 use Rattle.coding.proofs.cycle.Tie as tie
 
@@ -26,7 +27,7 @@ loop-again c =
     let l = c .before .before .before .before .loop in (
       simp length-set (omega arith),
       simp length-set (l .inv .1),
-      turn (cyclic (l .w)) (cyclic (c .wrapping-add-u16 .result)) (l .bytes) (l .i) (c .before .cyclic-byte .result) (omega arith) (cc)
+      turn (cyclic (l .w)) (cyclic (c .wrapping-add-u16 .result)) (l .bytes) (l .i) (c .before .cyclic-byte .result) (omega arith) (cyclic-on (l .w) _ _ _ (drop (suc (l .i)) (l .bytes)) (c .before .cyclic-byte .ensures) (c .wrapping-add-u16 .ensures))
           ∙ l .inv .2,
     )
 
