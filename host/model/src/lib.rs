@@ -2,7 +2,7 @@
 //!
 //! It shares nothing with the proved library but those rules, so that each can be held against the
 //! other. Every public call of `include/rekwonuda.h` has its like here, under the same name. [`build`]
-//! makes images, [`damage`] spoils them, [`images`] picks some of both.
+//! makes images, [`damage`] spoils them, [`images`] picks some of both, [`report`] says what is read.
 
 #![forbid(unsafe_code)]
 
@@ -20,6 +20,7 @@ pub mod page;
 pub mod property;
 pub mod random;
 pub mod refusal;
+pub mod report;
 mod tables;
 pub mod tree;
 

@@ -1,8 +1,9 @@
-//! Writes the chosen images into a folder as `NN-name.img`, and the sample mail file:
-//! `images FOLDER` or `images --office FILE`.
+//! Writes the chosen images into a folder as `NN-name.img`, or those and the report on them into the
+//! folder of the crate `images`, or the sample mail file: `images FOLDER`, `images --crate FOLDER` or
+//! `images --office FILE`.
 
 use model::build::office::office;
-use model::images::images;
+use model::report::{files, report};
 use std::path::Path;
 use std::process::ExitCode;
 use std::{env, fs, io};
@@ -12,9 +13,10 @@ fn main() -> ExitCode {
     let words: Vec<_> = words.iter().map(String::as_str).collect();
     let written = match words[..] {
         ["--office", file] => fs::write(file, office().image),
+        ["--crate", folder] => write_crate(Path::new(folder)),
         [folder] if !folder.starts_with('-') => write_all(Path::new(folder)),
         _ => {
-            eprintln!("images FOLDER | images --office FILE");
+            eprintln!("images FOLDER | images --crate FOLDER | images --office FILE");
             return ExitCode::from(2);
         }
     };
@@ -29,9 +31,13 @@ fn main() -> ExitCode {
 
 fn write_all(folder: &Path) -> io::Result<()> {
     fs::create_dir_all(folder)?;
-    for (at, image) in images().iter().enumerate() {
-        let name = format!("{:02}-{}.img", at + 1, image.name);
-        fs::write(folder.join(name), &image.bytes)?;
+    for (name, bytes) in files() {
+        fs::write(folder.join(name), bytes)?;
     }
     Ok(())
+}
+
+fn write_crate(folder: &Path) -> io::Result<()> {
+    write_all(&folder.join("data"))?;
+    fs::write(folder.join("stdout"), report())
 }

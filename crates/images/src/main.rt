@@ -1,0 +1,79 @@
+// Reads the images of data/, each built by the second program, and says every answer: one line for a call.
+mod answers;
+mod blocks;
+mod heaps;
+mod nodes;
+mod text;
+
+fn image_lines(name: &[u8]) {
+    let mut buffer = io::large_buffer();
+    let n = text::load(name, &mut buffer);
+    let mut out = io::large_buffer();
+    text::say(name);
+    text::say(b": ");
+    text::say_bytes(&buffer[..n]);
+    text::say(b"\n");
+    answers::whole_lines(&buffer[..n]);
+    nodes::list_nodes(&buffer[..n], &mut out);
+    blocks::list_blocks(&buffer[..n], &mut out);
+}
+
+// Each method, depth and height of a property tree.
+fn valid_images() {
+    image_lines(b"01-empty.img");
+    image_lines(b"02-none-level-0.img");
+    image_lines(b"03-permute-level-0.img");
+    image_lines(b"04-cyclic-level-0.img");
+    image_lines(b"05-cyclic-level-1.img");
+    image_lines(b"06-permute-level-2.img");
+    image_lines(b"07-none-level-3.img");
+    image_lines(b"08-cyclic-level-5.img");
+    image_lines(b"09-permute-level-7.img");
+}
+
+// Refusals 1 to 5.
+fn header_images() {
+    image_lines(b"10-refusal-1-short.img");
+    image_lines(b"11-refusal-2-magic.img");
+    image_lines(b"12-refusal-2-clientmagic.img");
+    image_lines(b"13-refusal-3-version.img");
+    image_lines(b"14-refusal-4-partialsum.img");
+    image_lines(b"15-refusal-4-fullsum.img");
+    image_lines(b"16-refusal-5-sentinel.img");
+    image_lines(b"17-refusal-5-method.img");
+}
+
+// Refusals 6 to 11.
+fn page_images() {
+    image_lines(b"18-refusal-6-rootoffset.img");
+    image_lines(b"19-refusal-6-childoffset.img");
+    image_lines(b"20-refusal-7-pagekind.img");
+    image_lines(b"21-refusal-8-pagenumber.img");
+    image_lines(b"22-refusal-8-pagesignature.img");
+    image_lines(b"23-refusal-9-pagebyte.img");
+    image_lines(b"24-refusal-10-pagecount.img");
+    image_lines(b"25-refusal-10-pagelevel.img");
+    image_lines(b"26-refusal-11-keyequal.img");
+    image_lines(b"27-refusal-11-keylow.img");
+}
+
+// Refusals 12 to 20.
+fn data_images() {
+    image_lines(b"28-refusal-12-treechild.img");
+    image_lines(b"29-refusal-13-listedsize.img");
+    image_lines(b"30-refusal-14-trailernumber.img");
+    image_lines(b"31-refusal-15-blockbyte.img");
+    image_lines(b"32-refusal-16-treesum.img");
+    image_lines(b"33-refusal-16-treecount.img");
+    image_lines(b"34-refusal-17-buffer.img");
+    image_lines(b"35-refusal-18-itemoffset.img");
+    image_lines(b"36-refusal-19-recordvalue.img");
+    image_lines(b"37-refusal-20-recordkey.img");
+}
+
+fn main() {
+    valid_images();
+    header_images();
+    page_images();
+    data_images();
+}
