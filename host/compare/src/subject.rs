@@ -54,12 +54,8 @@ pub fn subjects(seed: u64) -> Vec<Subject> {
 fn built_images(random: &mut Random) -> Vec<Subject> {
     let built = build_small(random.number());
     let whole = Subject {
-        nodes: built
-            .nodes
-            .iter()
-            .map(|node| u64::from(node.node))
-            .collect(),
-        blocks: built.blocks.iter().map(|block| block.number).collect(),
+        nodes: built.node_numbers(),
+        blocks: built.block_numbers(),
         ..Subject::new("built".into(), built.image.clone(), ON_IMAGE)
     };
     let damaged: Vec<_> = (0..12).map(|_| damaged_image(&built, random)).collect();
@@ -134,12 +130,8 @@ pub fn widest_image(seed: u64) -> Subject {
     };
     let built = build(seed, &plan);
     Subject {
-        nodes: built
-            .nodes
-            .iter()
-            .map(|node| u64::from(node.node))
-            .collect(),
-        blocks: built.blocks.iter().map(|block| block.number).collect(),
+        nodes: built.node_numbers(),
+        blocks: built.block_numbers(),
         asks: 6,
         ..Subject::new("widest".into(), built.image, &[Call::ReadNode])
     }

@@ -57,12 +57,8 @@ fn sample_mail_file() {
     let office = office();
     assert_image(&Image {
         name: "office".into(),
-        nodes: office
-            .nodes
-            .iter()
-            .map(|node| u64::from(node.node))
-            .collect(),
-        blocks: office.blocks.iter().map(|block| block.number).collect(),
+        nodes: office.node_numbers(),
+        blocks: office.block_numbers(),
         from: vec![0, 0x8022, u64::from(u32::MAX)],
         ids: vec![0x37, 0x1000, 0x3001, 0x3602],
         buffer: 65_536,

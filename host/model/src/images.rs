@@ -118,12 +118,8 @@ fn valid() -> Vec<Image> {
 }
 
 fn image_of(name: &str, bytes: Vec<u8>, built: &Built) -> Image {
-    let nodes: Vec<_> = built
-        .nodes
-        .iter()
-        .map(|node| u64::from(node.node))
-        .collect();
-    let blocks: Vec<_> = built.blocks.iter().map(|block| block.number).collect();
+    let nodes = built.node_numbers();
+    let blocks = built.block_numbers();
     let ids = built
         .heaps
         .values()
@@ -160,12 +156,8 @@ fn asked(known: &[u64], first: &[u64]) -> Vec<u64> {
 fn damaged(number: u64, damage: Damage, sealed: bool) -> Image {
     let built = build(number, &base((number % 3) as u8, 1, 0));
     let name = format!("refusal-{number}-{damage:?}").to_lowercase();
-    let nodes: Vec<_> = built
-        .nodes
-        .iter()
-        .map(|node| u64::from(node.node))
-        .collect();
-    let blocks: Vec<_> = built.blocks.iter().map(|block| block.number).collect();
+    let nodes = built.node_numbers();
+    let blocks = built.block_numbers();
     let tries = (0..).map(|seed| {
         let mut spoilt = spoil(&built, damage, sealed, &mut Random::new(seed));
         if number <= 5 {
@@ -242,7 +234,11 @@ pub fn refusals(image: &Image) -> Vec<u64> {
     note(crate::check_blocks(bytes));
     let mut out = vec![0; image.buffer];
     for &block in &image.blocks {
-        note(crate::read_block(bytes, block, &mut out).map(|_| ()));
+        let read = crate::read_block(bytes, block, &mut out);
+        // Any image answers 12 to a number that it does not list.
+        if read.is_err_and(|refusal| refusal.number != 12) {
+            note(read.map(|_| ()));
+        }
     }
     for &node in &image.nodes {
         let read = crate::read_node(bytes, node, &mut out);

@@ -1,17 +1,20 @@
-//! The crate `images` holds what the builder and the model make today, byte for byte.
+//! The crate `images` and the sample hold what the builder and the model make today, byte for byte.
 
+use model::build::office::office;
 use model::report::{files, report};
 use std::collections::{BTreeMap, BTreeSet};
 use std::fs;
 use std::path::PathBuf;
 
-fn images_crate() -> PathBuf {
-    PathBuf::from(env!("CARGO_MANIFEST_DIR")).join("../../crates/images")
+fn at_root(path: &str) -> PathBuf {
+    PathBuf::from(env!("CARGO_MANIFEST_DIR"))
+        .join("../..")
+        .join(path)
 }
 
 #[test]
 fn data_unchanged() {
-    let folder = images_crate().join("data");
+    let folder = at_root("crates/images/data");
     let held: BTreeMap<_, _> = fs::read_dir(&folder)
         .expect("the folder of images")
         .map(|entry| {
@@ -33,8 +36,14 @@ fn data_unchanged() {
 }
 
 #[test]
+fn sample_unchanged() {
+    let held = fs::read(at_root("samples/office.pst")).expect("the sample");
+    assert!(held == office().image, "it is not as the builder makes it");
+}
+
+#[test]
 fn report_unchanged() {
-    let held = fs::read_to_string(images_crate().join("stdout")).expect("the report");
+    let held = fs::read_to_string(at_root("crates/images/stdout")).expect("the report");
     let made = report();
     for (at, (held, made)) in held.lines().zip(made.lines()).enumerate() {
         assert_eq!(held, made, "line {}", at + 1);

@@ -80,19 +80,17 @@ pub fn bare_heap(random: &mut Random, items: usize) -> PlacedHeap {
     let kind = random.byte() & 0x7F;
     let user_root = random.number() as u32;
     let block = lay_out(random, &items, kind, user_root, false);
-    PlacedHeap {
-        block,
-        items,
-        user_root: 0,
-        tree: Vec::new(),
-        properties: BTreeMap::new(),
-    }
+    without_tree(block, items)
 }
 
 /// A heap of nothing but empty items.
 pub fn empty_items(random: &mut Random, items: usize) -> PlacedHeap {
     let items = vec![Vec::new(); items];
     let block = lay_out(random, &items, PROPERTIES, 32, true);
+    without_tree(block, items)
+}
+
+fn without_tree(block: Vec<u8>, items: Vec<Vec<u8>>) -> PlacedHeap {
     PlacedHeap {
         block,
         items,

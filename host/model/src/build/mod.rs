@@ -88,6 +88,14 @@ pub struct Built {
 }
 
 impl Built {
+    pub fn node_numbers(&self) -> Vec<u64> {
+        self.nodes.iter().map(|node| u64::from(node.node)).collect()
+    }
+
+    pub fn block_numbers(&self) -> Vec<u64> {
+        self.blocks.iter().map(|block| block.number).collect()
+    }
+
     pub fn block(&self, number: u64) -> Option<&PlacedBlock> {
         self.blocks.iter().find(|block| block.number == number)
     }

@@ -4,50 +4,32 @@ use crate::build::heaps::PlacedHeap;
 use crate::bytes::{put, u16_at, u32_at};
 use crate::random::Random;
 
-#[derive(Clone, Copy, PartialEq, Eq, Debug)]
-pub enum HeapDamage {
-    AnyByte,
-    Cut,
-    Longer,
-    Mark,
-    MapOffset,
-    ItemCount,
-    ItemOffset,
-    FirstOffset,
-    LastOffset,
-    ClientKind,
-    UserRoot,
-    TreeRecord,
-    TreeRecordEnd,
-    TreeRoot,
-    RecordKey,
-    RecordItem,
-    RecordType,
-    RecordValue,
+kinds! {
+    HeapDamage {
+        ALL [
+            AnyByte,
+            Cut,
+            Longer,
+            Mark,
+            MapOffset,
+            ItemCount,
+            ItemOffset,
+            FirstOffset,
+            LastOffset,
+            ClientKind,
+            UserRoot,
+            TreeRecord,
+            TreeRecordEnd,
+            TreeRoot,
+            RecordKey,
+            RecordItem,
+            RecordType,
+            RecordValue,
+        ]
+    }
 }
 
 use HeapDamage::*;
-
-pub const ALL: &[HeapDamage] = &[
-    AnyByte,
-    Cut,
-    Longer,
-    Mark,
-    MapOffset,
-    ItemCount,
-    ItemOffset,
-    FirstOffset,
-    LastOffset,
-    ClientKind,
-    UserRoot,
-    TreeRecord,
-    TreeRecordEnd,
-    TreeRoot,
-    RecordKey,
-    RecordItem,
-    RecordType,
-    RecordValue,
-];
 
 /// A damaged block, with property ids whose answers the damage may change.
 #[derive(Clone, Debug)]

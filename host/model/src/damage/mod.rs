@@ -3,6 +3,19 @@
 //! Each kind comes unsealed, so that a checksum over the damage no longer fits, and sealed, so that
 //! only the rule behind the checksum can tell.
 
+/// An enum of kinds, and a list of those of each group.
+macro_rules! kinds {
+    ($(#[$doc:meta])* $name:ident { $($group:ident [$($kind:ident),* $(,)?])* }) => {
+        $(#[$doc])*
+        #[derive(Clone, Copy, PartialEq, Eq, Debug)]
+        pub enum $name {
+            $($($kind,)*)*
+        }
+
+        $(pub const $group: &[$name] = &[$($name::$kind),*];)*
+    };
+}
+
 mod block;
 mod header;
 pub mod heap;
@@ -11,112 +24,66 @@ mod page;
 use crate::build::Built;
 use crate::random::Random;
 
-#[derive(Clone, Copy, PartialEq, Eq, Debug)]
-pub enum Damage {
-    AnyByte,
-    Cut,
-    Magic,
-    ClientMagic,
-    Version,
-    PartialSum,
-    FullSum,
-    HeaderByte,
-    Sentinel,
-    Method,
-    RootNumber,
-    RootOffset,
-    RootGraft,
-    PageKind,
-    PageNumber,
-    PageSignature,
-    PageSum,
-    PageByte,
-    PageLevel,
-    EntrySize,
-    PageRoom,
-    PageCount,
-    KeyEqual,
-    KeySwap,
-    KeyLow,
-    KeyHigh,
-    KeyUpperHalf,
-    ChildNumber,
-    ChildOffset,
-    ChildGraft,
-    NodeData,
-    ListedOffset,
-    ListedSize,
-    Resize,
-    MoveToEnd,
-    BlockByte,
-    TrailerSize,
-    TrailerSignature,
-    TrailerNumber,
-    TrailerSum,
-    TreeMark,
-    TreeLevel,
-    TreeCount,
-    TreeSum,
-    TreeChild,
-    TreeShort,
+kinds! {
+    Damage {
+        WHOLE [
+            AnyByte,
+            Cut,
+        ]
+        HEADER [
+            Magic,
+            ClientMagic,
+            Version,
+            PartialSum,
+            FullSum,
+            HeaderByte,
+            Sentinel,
+            Method,
+            RootNumber,
+            RootOffset,
+            RootGraft,
+        ]
+        PAGE [
+            PageKind,
+            PageNumber,
+            PageSignature,
+            PageSum,
+            PageByte,
+            PageLevel,
+            EntrySize,
+            PageRoom,
+            PageCount,
+            KeyEqual,
+            KeySwap,
+            KeyLow,
+            KeyHigh,
+            KeyUpperHalf,
+            ChildNumber,
+            ChildOffset,
+            ChildGraft,
+            NodeData,
+        ]
+        BLOCK [
+            ListedOffset,
+            ListedSize,
+            Resize,
+            MoveToEnd,
+            BlockByte,
+            TrailerSize,
+            TrailerSignature,
+            TrailerNumber,
+            TrailerSum,
+            TreeMark,
+            TreeLevel,
+            TreeCount,
+            TreeSum,
+            TreeChild,
+            TreeShort,
+        ]
+    }
 }
 
 use Damage::*;
-
-pub const HEADER: &[Damage] = &[
-    Magic,
-    ClientMagic,
-    Version,
-    PartialSum,
-    FullSum,
-    HeaderByte,
-    Sentinel,
-    Method,
-    RootNumber,
-    RootOffset,
-    RootGraft,
-];
-
-pub const PAGE: &[Damage] = &[
-    PageKind,
-    PageNumber,
-    PageSignature,
-    PageSum,
-    PageByte,
-    PageLevel,
-    EntrySize,
-    PageRoom,
-    PageCount,
-    KeyEqual,
-    KeySwap,
-    KeyLow,
-    KeyHigh,
-    KeyUpperHalf,
-    ChildNumber,
-    ChildOffset,
-    ChildGraft,
-    NodeData,
-];
-
-pub const BLOCK: &[Damage] = &[
-    ListedOffset,
-    ListedSize,
-    Resize,
-    MoveToEnd,
-    BlockByte,
-    TrailerSize,
-    TrailerSignature,
-    TrailerNumber,
-    TrailerSum,
-    TreeMark,
-    TreeLevel,
-    TreeCount,
-    TreeSum,
-    TreeChild,
-    TreeShort,
-];
-
-pub const WHOLE: &[Damage] = &[AnyByte, Cut];
 
 /// A damaged image, with nodes and blocks whose answers the damage may change.
 #[derive(Clone, Debug)]
