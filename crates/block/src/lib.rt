@@ -84,9 +84,10 @@ fn trailer_fits(t: Trailer, b: Listed, trailer: &[u8]) -> bool
     ensures { λ r. ⌜ r ≡ trailerFits t b (now (trailer .entry)) ⌝ }
 {
     let size = le::field2(trailer, 0) as u64;
+    let stated = le::field_of(trailer, t.number, t.word);
     let number = b.block;
     (size == b.size)
-        & (le::field_of(trailer, t.number, t.word) == number)
+        & (stated == number)
         & (le::field2(trailer, 2) == page::signature(b.offset, number))
 }
 

@@ -5,7 +5,7 @@ use Rattle.block.proofs.trailer_fits.Tie as tie
 
 returns : tie.Need-returns
 unfolding trailerFits
-returns c = rw (c .before .before .before .before .field2 .ensures, c .before .before .field-of .ensures .0, c .before .field22 .ensures, c .signature .ensures)
+returns c = rw (c .before .before .before .before .field2 .ensures, c .before .before .before .field-of .ensures .0, c .before .field22 .ensures, c .signature .ensures)
 
 pub trailer-fits-spec : {M : Type 1} → statement M
 trailer-fits-spec =
