@@ -77,7 +77,7 @@ pub fn office() -> Built {
     };
     let mut builder = Builder::new(0x0FF1CE, &plan);
     builder.place_context(STORE, 0, store());
-    builder.place_context(NAMES, 0, vec![(1, NUMBER, Given::Number(251))]);
+    builder.place_context(NAMES, 0, names());
     for (node, parent, name) in FOLDERS {
         builder.place_context(node, parent, folder(node, name));
     }
@@ -126,6 +126,17 @@ fn text(text: &str) -> Given {
     } else {
         Given::Bytes(text.encode_utf16().flat_map(u16::to_le_bytes).collect())
     }
+}
+
+/// One name, in the form that other readers ask for before they open a file: buckets, sets of names,
+/// entries, texts.
+fn names() -> Vec<(u16, u16, Given)> {
+    vec![
+        (1, NUMBER, Given::Number(251)),
+        (2, BYTES, Given::Bytes(vec![0x29; 16])),
+        (3, BYTES, Given::Bytes(vec![0, 0x82, 0, 0, 6, 0, 0, 0])),
+        (4, BYTES, Given::Bytes(vec![0; 4])),
+    ]
 }
 
 fn store() -> Vec<(u16, u16, Given)> {
