@@ -1,6 +1,6 @@
 -- What upper layers may know of the header. Assumes nothing.
 use Prim.Native.Nat.{ℕ, _+_, _≤_, _<_}
-use mathlib.Core.Path.{_≡_, refl, sym, ap, _∙_}
+use mathlib.Core.Path.{_≡_, refl, sym, ap, ap₂, _∙_}
 use mathlib.Core.Bool.{Bool, true, _&&_}
 use mathlib.Core.Logic.{_↔_}
 use mathlib.Core.List.{List, [], _∷_}
@@ -35,9 +35,11 @@ unfolding headerFits
 header-is image = in-order-append (markRules image) (sealRules image)
 
 -- the second checksum goes on from the first
-pub sum-goes-on : (image : List ℕ) → checksum (part image 8 516) ≡ checksumFrom (checksum (part image 8 471)) (part image 479 45)
+pub sum-goes-on : (image s : List ℕ) (partial sum : ℕ) → partial ≡ checksum (part image 8 471) → sum ≡ checksumFrom partial s → s ≡ part image 479 45
+    → sum ≡ checksum (part image 8 516)
 unfolding checksum
-sum-goes-on image = ap (checksumFrom 0) (part-append image 8 471 45) ∙ checksum-append 0 (part image 8 471) (part image 479 45)
+sum-goes-on image s partial sum e h g =
+    h ∙ ap₂ checksumFrom e g ∙ sym (ap (checksumFrom 0) (part-append image 8 471 45) ∙ checksum-append 0 (part image 8 471) (part image 479 45))
 
 -- the file ends inside the image
 pub end-inside : (image : List ℕ) → fileEnd image ≤ length image
