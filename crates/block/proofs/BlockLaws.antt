@@ -1,8 +1,8 @@
 -- What upper layers may know of blocks. Assumes nothing.
-use Prim.Native.Nat.{ℕ, _+_, _-_, _*_, _/_, _%_, _≤_, _<_}
+use Prim.Native.Nat.{ℕ, _+_, _-_, _*_, _%_, _≤_, _<_}
 use mathlib.Core.Path.{_≡_, refl, sym, ap, _∙_}
 use mathlib.Core.Bool.{Bool, true, false, _&&_, cond}
-use mathlib.Core.List.{List, [], _∷_}
+use mathlib.Core.List.{List}
 use native.Mathlib.Nat.{le-trans, add-sub-cancel-left}
 use native.Mathlib.Omega.{arith}
 use lib.Dec.{leb, eqb}
@@ -17,7 +17,7 @@ use Rattle.refusal.specs.declared.Refusal.{Refusal}
 use Rattle.refusal.specs.declared.Verdict.{Verdict}
 use Rattle.refusal.specs.declared.Verdict.the-variants.{Accepted, Refused}
 use Rattle.refusal.specs.declared.Fault.the-variants.{BlockUnlisted, BlockOffset, ShortBuffer}
-use Rattle.refusal.specs.Order.{_at_, _needing_, inOrder, AllHold, none, both}
+use Rattle.refusal.specs.Order.{_at_, _needing_, inOrder, AllHold, both}
 use Rattle.refusal.proofs.OrderLaws.{test-goes, test-ends, goes, ends, accepted-exactly}
 use Rattle.header.specs.Header.{fileEnd}
 use Rattle.header.proofs.HeaderLaws.{end-inside}

@@ -1,12 +1,12 @@
 -- The tables' rules, computed once over the tables and carried to each byte, and the round trips that follow. Assumes nothing.
-use mathlib.Core.Path.{_≡_, refl, sym, ap, ap₂, _∙_}
+use mathlib.Core.Path.{_≡_, refl, ap, ap₂, _∙_}
 use mathlib.Core.Bool.{Bool, true, false, cond}
 use mathlib.Core.List.{List, [], _∷_, map}
-use Prim.Native.Nat.{ℕ, zero, suc, _+_, _-_, _<_, _≤_, _%_, _/_}
+use Prim.Native.Nat.{ℕ, _+_, _-_, _<_, _≤_, _%_, _/_}
 use native.Mathlib.Omega.{arith}
 use lib.Bits.{xor-lt}
 use lib.Dec.{eqb}
-use lib.ListN.{getD, length}
+use lib.ListN.{getD}
 use Rattle.laws.proofs.Table.{agree}
 use Rattle.le.specs.Bytes.{Bytes}
 use Rattle.le.proofs.ByteLaws.{first-below, rest-bytes}

@@ -1,26 +1,28 @@
 -- The search of a tree over climbing keys: what the chosen child holds is what all children hold. Assumes nothing.
-use Prim.Native.Nat.{ℕ, zero, suc, _≤_, _<_}
+use Prim.Native.Nat.{ℕ, _≤_, _<_}
 use mathlib.Core.Path.{_≡_, refl, sym, ap, _∙_, subst}
 use mathlib.Core.Bool.{Bool, true, false, cond}
 use mathlib.Core.Option.{Option, none, some}
 use mathlib.Core.List.{List, [], _∷_, _++_}
-use native.Mathlib.Nat.{le-refl, le-of-lt}
+use native.Mathlib.Nat.{le-of-lt}
 use native.Mathlib.Omega.{arith}
-use lib.Dec.{leb, eqb}
+use lib.Dec.{leb}
 use borrow.Author.Tests.{leb-true, leb-false, le-leb, lt-leb, ne-eqb}
 use Rattle.keys.specs.declared.End.{End}
 use Rattle.keys.specs.declared.End.the-variants.{Before}
-use Rattle.keys.specs.declared.Seat.{Seat}
-use Rattle.keys.specs.declared.Seat.the-variants.{At, Nowhere}
 use Rattle.keys.specs.declared.Sought.{Sought}
 use Rattle.keys.specs.declared.Sought.the-variants.{Equal, AtLeast}
 pub use Rattle.keys.specs.Plain.{All}
-use Rattle.keys.specs.Search.{onward, orFirst, lastAtMost, meets, scanned, withKey, fromKey, orLater, choice, start, startingAt, joined}
+use Rattle.keys.specs.Search.{meets, scanned, withKey, fromKey, orLater, choice, joined}
 use Rattle.keys.proofs.Climbs.{Under, under-less, Climbs, done, step, climbs-lower, climbs-append, climbs-nil}
 
 pub all-map : {A : Type 0} {P Q : A → Type 0} → ((x : A) → P x → Q x) → (xs : List A) → All P xs → All Q xs
 all-map f [] a = tt
 all-map f (x ∷ xs) a = (f x (a .0), all-map f xs (a .1))
+
+pub all-append : {A : Type 0} (P : A → Type 0) (xs ys : List A) → All P xs → All P ys → All P (xs ++ ys)
+all-append P [] ys a b = b
+all-append P (x ∷ xs) ys a b = (a .0, all-append P xs ys (a .1) b)
 
 -- children whose ranges follow one another: each ends where the next begins, the last where the parent ends
 pub data Tiled {C : Type 0} (low : C → ℕ) (high : C → End) (to : End) : ℕ → List C → Type 0 where

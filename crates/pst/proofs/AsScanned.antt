@@ -1,6 +1,6 @@
 -- Where a whole-tree check accepts, each lookup answers as a plain scan of all leaf entries does (demand 3), and each listing with the scan's first entry from a key on. Assumes nothing.
-use Prim.Native.Nat.{ℕ, _+_, _*_, _≤_}
-use mathlib.Core.Path.{_≡_, refl, sym, ap, _∙_}
+use Prim.Native.Nat.{ℕ}
+use mathlib.Core.Path.{_≡_, refl, ap, _∙_}
 use mathlib.Core.Bool.{false}
 use mathlib.Core.Option.{Option, none, some}
 use mathlib.Core.List.{List, []}
@@ -18,7 +18,7 @@ use Rattle.tree.specs.declared.Found.the-variants.{Entry, Absent}
 use Rattle.tree.specs.Tree.{treeFits, scan}
 use Rattle.tree.specs.Lookup.{Answer, answer, path, lookup}
 use Rattle.tree.specs.Answers.{shown, asNode, asBlock, nodeOf, blockOf}
-use Rattle.tree.specs.Listing.{next, nextNodeOf, nextBlockOf}
+use Rattle.tree.specs.Listing.{nextNodeOf, nextBlockOf}
 use Rattle.tree.specs.Listed.{Lists}
 use Rattle.tree.proofs.Demand3.{demand3}
 use Rattle.tree.proofs.Listing.{listing}

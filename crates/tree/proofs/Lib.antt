@@ -1,5 +1,6 @@
 pub mod Children
 pub mod Walk
+pub mod Ways
 pub mod Looks
 pub mod Pages
 pub mod Seeks

@@ -1,16 +1,10 @@
 -- A listing of an accepted tree is its scan. Assumes nothing.
-use Prim.Native.Nat.{ℕ, zero, suc, _+_, _*_, _^_, _≤_, _<_}
-use mathlib.Core.Path.{_≡_, refl, sym, ap, _∙_, subst}
+use Prim.Native.Nat.{ℕ, zero, suc, _+_, _*_, _≤_, _<_}
+use mathlib.Core.Path.{_≡_, refl, sym, ap, _∙_}
 use mathlib.Core.Logic.{_↔_}
-use mathlib.Core.Bool.{Bool, true, false, cond}
 use mathlib.Core.Option.{Option, none, some}
 use mathlib.Core.List.{List, [], _∷_, _++_}
-use native.Mathlib.Nat.{le-trans, mod-eq-of-lt, pow-le-pow-right, zero-lt-suc}
 use native.Mathlib.Omega.{arith}
-use lib.Dec.{leb}
-use lib.ListN.{length}
-use borrow.Author.Tests.{leb-true, leb-false, le-leb, lt-leb}
-use Rattle.le.specs.Bytes.{Bytes}
 use Rattle.refusal.specs.declared.Verdict.{Verdict}
 use Rattle.refusal.specs.declared.Verdict.the-variants.{Accepted, Refused}
 use Rattle.refusal.specs.Order.{after}
@@ -27,11 +21,11 @@ use Rattle.page.specs.declared.Link.{Link}
 use Rattle.page.specs.Layout.{compared}
 use Rattle.page.specs.Page.{keyIn}
 use Rattle.tree.specs.Tree.{root, rootLevel, children, under, treeFits, leaves, scan}
-use Rattle.tree.specs.Lookup.{Answer, found, absent, refused, answer, oneMore, low}
+use Rattle.tree.specs.Lookup.{Answer, refused, answer, oneMore, low}
 use Rattle.tree.specs.Answers.{counted}
 use Rattle.tree.specs.Listing.{orNext, inTurn, nextUnder, next}
-use Rattle.tree.specs.Listed.{AtMost, Says, Listing, ListingHolds, FewPagesHolds}
-use Rattle.tree.proofs.Accepted.{high, page-of, children-of, children-tiled, leaves-climb}
+use Rattle.tree.specs.Listed.{AtMost, Says, ListingHolds, FewPagesHolds}
+use Rattle.tree.proofs.Accepted.{page-of, children-of, children-tiled, leaves-climb}
 use Rattle.tree.proofs.Demand3.{absent-answer}
 use Rattle.tree.proofs.Descent.{one-more}
 use Rattle.tree.proofs.Pages.{Few, few-found, few-absent, few-refused, few-pages}

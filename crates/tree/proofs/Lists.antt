@@ -1,9 +1,8 @@
 -- Going from 0, each time one above the key found, lists exactly the scan of an accepted tree. Assumes nothing.
-use Prim.Native.Nat.{ℕ, zero, suc, _+_, _*_, _^_, _≤_, _<_, zero-le}
+use Prim.Native.Nat.{ℕ, zero, suc, _^_, _≤_, _<_, zero-le}
 use mathlib.Core.Path.{_≡_, refl, sym, ap, _∙_, subst}
 use mathlib.Core.Bool.{Bool, true, false}
-use mathlib.Core.Option.{Option, none, some}
-use mathlib.Core.List.{List, [], _∷_, _++_}
+use mathlib.Core.List.{List, [], _∷_}
 use native.Mathlib.Nat.{le-trans, le-refl, mod-eq-of-lt, pow-le-pow-right, zero-lt-suc}
 use native.Mathlib.Omega.{arith}
 use lib.Dec.{leb}
@@ -17,22 +16,18 @@ use Rattle.keys.specs.declared.End.{End}
 use Rattle.keys.specs.Plain.{All}
 use Rattle.keys.specs.Records.{cut, keyOf, records}
 use Rattle.keys.specs.Search.{scanned, meets, fromKey, joined}
-use Rattle.keys.proofs.Climbs.{Climbs, done, step, climbs-lower}
-use Rattle.keys.proofs.SearchLaws.{all-map, first-from}
+use Rattle.keys.proofs.Climbs.{Climbs, step}
+use Rattle.keys.proofs.SearchLaws.{all-map, all-append, first-from}
 use Rattle.page.specs.declared.Layout.{Layout}
 use Rattle.page.specs.declared.Link.{Link}
 use Rattle.page.specs.Layout.{shape, compared}
 use Rattle.page.specs.Page.{page, entries, keyIn}
 use Rattle.tree.specs.Tree.{root, rootLevel, children, treeFits, leaves, scan}
-use Rattle.tree.specs.Lookup.{found, absent, answer}
+use Rattle.tree.specs.Lookup.{found, answer}
 use Rattle.tree.specs.Listing.{next}
-use Rattle.tree.specs.Listed.{Says, Lists, ended, topped, onward, Listing, ListsHolds}
-use Rattle.tree.proofs.Accepted.{high, leaves-climb}
+use Rattle.tree.specs.Listed.{Says, Lists, ended, topped, onward, ListsHolds}
+use Rattle.tree.proofs.Accepted.{leaves-climb}
 use Rattle.tree.proofs.Listing.{listing}
-
-all-append : {A : Type 0} (P : A → Type 0) (xs ys : List A) → All P xs → All P ys → All P (xs ++ ys)
-all-append P [] ys a b = b
-all-append P (x ∷ xs) ys a b = (a .0, all-append P xs ys (a .1) b)
 
 all-joined : {A B : Type 0} (P : B → Type 0) (list : A → List B) → ((c : A) → All P (list c)) → (cs : List A) → All P (joined list cs)
 unfolding joined

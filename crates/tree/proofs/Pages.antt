@@ -1,15 +1,12 @@
 -- How many pages a listing reads, in any image, accepted or not. Assumes nothing.
 use Prim.Native.Nat.{ℕ, zero, suc, _+_, _*_, _≤_, _<_, suc-le-suc}
 use mathlib.Core.Path.{_≡_, refl, sym, ap, _∙_, subst}
-use mathlib.Core.Bool.{Bool, true, false, _||_}
 use mathlib.Core.Option.{Option, none, some}
 use mathlib.Core.List.{List, [], _∷_}
 use native.Mathlib.Nat.{le-refl, le-trans, le-of-lt}
 use native.Mathlib.Numerals.{add-one}
 use native.Mathlib.Omega.{arith}
-use lib.Dec.{leb}
 use lib.ListN.{length}
-use borrow.Author.Tests.{leb-true}
 use Rattle.refusal.specs.declared.Refusal.{Refusal}
 use Rattle.refusal.specs.declared.Verdict.{Verdict}
 use Rattle.refusal.specs.declared.Verdict.the-variants.{Accepted, Refused}
@@ -21,18 +18,16 @@ use Rattle.keys.proofs.Climbs.{Climbs}
 use Rattle.keys.proofs.SearchLaws.{Tiled, first-from}
 use Rattle.keys.proofs.StartLaws.{Begun, begins, begun, all-starting, starts-none}
 use Rattle.page.specs.declared.Layout.{Layout}
-use Rattle.page.specs.declared.Level.{Level}
 use Rattle.page.specs.declared.Level.the-variants.{Exactly}
 use Rattle.page.specs.declared.Link.{Link}
-use Rattle.page.specs.Page.{page, countOf, levelOf, entries, keyIn, mayBeEmpty, pageFits}
-use Rattle.page.proofs.PageLaws.{counts-of}
+use Rattle.page.specs.Page.{page, entries, keyIn, pageFits}
 use Rattle.tree.specs.Tree.{children, links}
 use Rattle.tree.specs.Lookup.{Answer, found, absent, refused, answer, oneMore, low}
 use Rattle.tree.specs.Answers.{counted}
 use Rattle.tree.specs.Listing.{orNext, inTurn, nextUnder}
 use Rattle.tree.proofs.Accepted.{high, page-climbs, children-tiled}
 use Rattle.tree.proofs.Children.{entries-length}
-use Rattle.tree.proofs.Walk.{accepted-counts, children-level}
+use Rattle.tree.proofs.Walk.{some-entry, children-level}
 
 -- a page without children has no entries
 childless-page : (L : Layout) (image : List ℕ) (l : ℕ) (p : Link) → children L image l p ≡ [] → entries L (page image (p .offset)) ≡ []
@@ -70,22 +65,11 @@ unfolding oneMore counted
 direct-few {l} {m} h (direct-found {n} b) = let q : suc (m + n) ≤ 2 * suc l + 1 = omega arith in few-found q
 direct-few h direct-refused = few-refused
 
-left-one : (b c : Bool) → (b || c) ≡ true → c ≡ false → b ≡ true
-left-one true c o n = refl
-left-one false c o n = sym n ∙ o
-
 module _ (L : Layout) (image : List ℕ) (k : ℕ) where
   -- a page that is no root has an entry
-  has-one : (p : Link) (l : ℕ) → p .level ≡ Exactly l → pageFits L image p ≡ Accepted → 1 ≤ countOf L (page image (p .offset))
-  unfolding mayBeEmpty
-  has-one p l e ok =
-      leb-true _ _
-      (left-one _ _ (counts-of L p (page image (p .offset)) (accepted-counts L image p ok) .some)
-      (ap (λ (w : Level). mayBeEmpty w (levelOf L (page image (p .offset)))) e))
-
   has-entry : (p : Link) (l : ℕ) → p .level ≡ Exactly l → pageFits L image p ≡ Accepted → entries L (page image (p .offset)) ≡ [] → ⊥
   has-entry p l e ok none-there =
-      omega (arith, has-one p l e ok, sym (entries-length L (page image (p .offset))) ∙ ap length none-there)
+      omega (arith, some-entry L image p ok l e, sym (entries-length L (page image (p .offset))) ∙ ap length none-there)
 
   -- a leaf whose range begins at the key or above answers with its first entry
   leaf-direct : (es : List (List ℕ)) {from : ℕ} {to : End} → k ≤ from → Climbs (keyIn L) to from es → (es ≡ [] → ⊥) → Direct 1 (answer (fromKey (keyIn L) k es) 1)

@@ -1,37 +1,29 @@
 -- No page of an accepted tree is reached by two routes: its level tells it from the pages above and below it, and its first key from the pages beside it. Assumes nothing.
 use Prim.Native.Nat.{ℕ, zero, suc, _≤_, _<_}
-use mathlib.Core.Path.{_≡_, refl, sym, ap, _∙_, subst}
+use mathlib.Core.Path.{_≡_, ap, subst}
 use mathlib.Core.Logic.{_≢_}
-use mathlib.Core.Bool.{Bool, true, false, _||_}
 use mathlib.Core.List.{List, [], _∷_, _++_}
 use native.Mathlib.Nat.{le-trans, le-of-lt, le-of-eq, le-step}
 use native.Mathlib.Omega.{arith}
-use lib.Dec.{leb}
-use borrow.Author.Tests.{leb-true}
 use Rattle.refusal.specs.declared.Verdict.the-variants.{Accepted}
 use Rattle.keys.specs.declared.End.{End}
 use Rattle.keys.specs.declared.End.the-variants.{Before}
 use Rattle.keys.specs.Plain.{All, Missing, Distinct, Under}
 use Rattle.keys.specs.Records.{cut, records}
 use Rattle.keys.specs.Search.{joined}
-use Rattle.keys.proofs.Climbs.{under-less, Climbs, done, step}
-use Rattle.keys.proofs.SearchLaws.{all-map, Tiled, childless, last, more, first-under}
+use Rattle.keys.proofs.Climbs.{under-less, Climbs, step}
+use Rattle.keys.proofs.SearchLaws.{all-map, all-append, Tiled, childless, last, more, first-under}
 use Rattle.page.specs.declared.Layout.{Layout}
 use Rattle.page.specs.declared.Level.the-variants.{Exactly}
 use Rattle.page.specs.declared.Link.{Link}
-use Rattle.page.specs.Layout.{entrySize, shape}
-use Rattle.page.specs.Page.{page, countOf, levelOf, entries, keyIn, mayBeEmpty, pageFits}
-use Rattle.page.proofs.PageLaws.{counts-of}
+use Rattle.page.specs.Layout.{shape}
+use Rattle.page.specs.Page.{page, countOf, levelOf, entries, keyIn, pageFits}
 use Rattle.tree.specs.Tree.{children, under, routes}
 use Rattle.tree.specs.Lookup.{low}
-use Rattle.tree.proofs.Walk.{accepted-counts, accepted-level, children-level}
+use Rattle.tree.proofs.Walk.{accepted-level, some-entry, children-level}
 use Rattle.tree.proofs.Accepted.{high, page-climbs, children-tiled, page-of, children-of}
 
 -- lists of numbers
-all-append : {A : Type 0} (P : A → Type 0) (xs ys : List A) → All P xs → All P ys → All P (xs ++ ys)
-all-append P [] ys a b = b
-all-append P (x ∷ xs) ys a b = (a .0, all-append P xs ys (a .1) b)
-
 missing-append : (x : ℕ) (ys zs : List ℕ) → Missing x ys → Missing x zs → Missing x (ys ++ zs)
 missing-append x [] zs a b = b
 missing-append x (y ∷ ys) zs a b = (a .0, missing-append x ys zs (a .1) b)
@@ -59,10 +51,6 @@ unfolding cut firstKey
 first-in zero size g L to from h c = absurd (omega arith)
 first-in (suc n) size g L to from h (step f u c) = (f, u)
 
-or-false : (a b : Bool) → b ≡ false → (a || b) ≡ true → a ≡ true
-or-false true b e h = refl
-or-false false b e h = cc
-
 module _ (L : Layout) (image : List ℕ) where
   levelAt : ℕ → ℕ
   levelAt offset = levelOf L (page image offset)
@@ -74,19 +62,11 @@ module _ (L : Layout) (image : List ℕ) where
   abbrev Within : ℕ → ℕ → End → ℕ → Type 0
   Within l from to offset = (levelAt offset ≤ l) × (from ≤ firstAt offset) × Under to (firstAt offset)
 
-  -- a page that is not the root has an entry
-  some-entry : (p : Link) (l : ℕ) → p .level ≡ Exactly l → pageFits L image p ≡ Accepted → 1 ≤ countOf L (page image (p .offset))
-  unfolding mayBeEmpty
-  some-entry p l h e =
-      let g = page image (p .offset) in
-      leb-true 1 (countOf L g)
-      (or-false _ _ (ap (λ w. mayBeEmpty w (levelOf L g)) h) (counts-of L p g (accepted-counts L image p e) .some))
-
   own-within : (p : Link) (l : ℕ) → p .level ≡ Exactly l → pageFits L image p ≡ Accepted → Within l (low p) (high p) (p .offset)
   unfolding levelAt firstAt entries records
   own-within p l h e =
       let g = page image (p .offset) in
-      let f = first-in (countOf L g) ((shape L (levelOf L g)) .size) g L (high p) (low p) (some-entry p l h e) (page-climbs L image p e) in
+      let f = first-in (countOf L g) ((shape L (levelOf L g)) .size) g L (high p) (low p) (some-entry L image p e l h) (page-climbs L image p e) in
       (le-of-eq (accepted-level L image p e l h), f .0, f .1)
 
   -- the pages of subtrees whose ranges follow one another

@@ -1,8 +1,6 @@
 -- A listing, one step at a time. Assumes nothing.
-use Prim.Native.Nat.{ℕ, zero, suc, _+_, _-_, _≤_, _<_}
-use mathlib.Core.Path.{_≡_, refl, sym, ap, ap₂, _∙_}
-use mathlib.Core.Bool.{Bool, true, false}
-use mathlib.Core.Option.{Option, none, some}
+use Prim.Native.Nat.{ℕ, zero, suc, _+_, _-_, _≤_}
+use mathlib.Core.Path.{_≡_, refl, sym, ap, _∙_}
 use mathlib.Core.List.{List, [], _∷_, map}
 use mathlib.Core.Logic.{inl, inr}
 use native.Mathlib.Nat.{add-zero}
@@ -10,38 +8,28 @@ use native.Mathlib.Omega.{arith}
 use types.Run.{OneOf}
 use denote.Enum.Declared.{tagOf}
 use lib.ListN.{drop}
-use Rattle.refusal.specs.declared.Refusal.{Refusal}
-use Rattle.refusal.specs.declared.Fault.the-variants.{PageOffset}
 use Rattle.refusal.specs.declared.Verdict.{Verdict}
-use Rattle.refusal.specs.declared.Verdict.the-variants.{Accepted, Refused}
+use Rattle.refusal.specs.declared.Verdict.the-variants.{Accepted}
 use Rattle.refusal.specs.Order.{_at_}
-use Rattle.refusal.proofs.OrderLaws.{goes, ends}
+use Rattle.refusal.proofs.OrderLaws.{goes}
 use Rattle.keys.specs.declared.End.{End}
-use Rattle.keys.specs.Plain.{All}
-use Rattle.keys.specs.Search.{fromKey, lastAtMost, start, startingAt}
-use Rattle.keys.proofs.RecordLaws.{recordsFrom, records-drop}
-use Rattle.keys.proofs.SearchLaws.{Tiled}
-use Rattle.keys.proofs.StartLaws.{Begun, begins, begun, all-starting}
-use Rattle.header.specs.Header.{headerFits}
+use Rattle.keys.specs.declared.Sought.the-variants.{AtLeast}
+use Rattle.keys.specs.Search.{lastAtMost, start, startingAt}
+use Rattle.keys.proofs.RecordLaws.{records-drop}
 use Rattle.page.specs.declared.Layout.{Layout}
-use Rattle.page.specs.declared.Level.the-variants.{Exactly}
 use Rattle.page.specs.declared.Link.{Link}
-use Rattle.page.specs.Layout.{compared}
-use Rattle.page.specs.Page.{page, levelOf, entries, keyIn, offsetFits, pageFits}
-use Rattle.page.proofs.PageLaws.{page-ends}
+use Rattle.page.specs.Page.{page, entries, keyIn, pageFits}
 use Rattle.tree.specs.declared.Found.{Found}
 use Rattle.tree.specs.declared.Found.the-variants.{Entry, Absent, Refused as Turned}
-use Rattle.tree.specs.declared.Next.the-variants.{Here, NoMore}
-use Rattle.tree.specs.Tree.{root, rootLevel, links, children}
+use Rattle.tree.specs.declared.Next.the-variants.{NoMore}
+use Rattle.tree.specs.Tree.{links, children}
 use Rattle.tree.specs.Lookup.{Answer, found, absent, refused, answer, oneMore, low}
 use Rattle.tree.specs.Answers.{shown, counted, childrenFrom, nextOf}
-use Rattle.tree.specs.Listing.{orNext, inTurn, nextUnder, next}
+use Rattle.tree.specs.Listing.{orNext, inTurn, nextUnder}
 use Rattle.tree.proofs.Found.{the-type}
-use Rattle.tree.proofs.Accepted.{high, children-tiled}
 use Rattle.tree.proofs.Children.{links-low, start-inside}
-use Rattle.tree.proofs.Looks.{counted-one, from-root}
-use Rattle.tree.proofs.Pages.{direct-ends, behind-direct, Few, few-absent, few-pages}
-use Rattle.tree.proofs.Walk.{children-level}
+use Rattle.tree.proofs.Ways.{WayDown}
+use Rattle.tree.proofs.Pages.{direct-ends, behind-direct, Few, few-absent}
 
 -- the children from the start on
 drop-links : (L : Layout) (l : ℕ) (to : End) (i : ℕ) (es : List (List ℕ)) → drop i (links L l to es) ≡ links L l to (drop i es)
@@ -106,20 +94,12 @@ module _ (L : Layout) (n : ℕ) (a : Answer) (f : Found) (first-is : f ≡ shown
       by (absent j) q = absurd (h (n + 1 + j) q)
       by (refused r) q = q
 
+pub listing-way : (L : Layout) (image : List ℕ) → WayDown L image AtLeast (λ k l p. nextUnder L image k l p)
+unfolding nextUnder
+listing-way L image = record { leaf = λ k p. refl; below = λ k l p. oneMore (inTurn (λ c. nextUnder L image k l c) (startingAt low k (children L image l p))); index = λ k l p. refl }
+
 -- a page, whose check answered v, when n pages have been read
 module _ (L : Layout) (image : List ℕ) (k n : ℕ) (p : Link) (v : Verdict) (page-is : v ≡ pageFits L image p) where
-  pub seek-refused : (l : ℕ) (r : Refusal) → v ≡ Refused r → refused r ≡ counted n (nextUnder L image k l p)
-  unfolding nextUnder counted
-  seek-refused zero r q = ap (counted n) (sym (ends refused _ _ r (sym page-is ∙ q)))
-  seek-refused (suc l) r q = ap (counted n) (sym (ends refused _ _ r (sym page-is ∙ q)))
-
-  pub seek-leaf : (l : ℕ) → l ≡ 0 → v ≡ Accepted
-      → answer (fromKey (keyIn L) k (entries L (page image (p .offset)))) (n + 1) ≡ counted n (nextUnder L image k l p)
-  unfolding nextUnder
-  seek-leaf l h q =
-      counted-one n (fromKey (keyIn L) k (entries L (page image (p .offset))))
-      ∙ ap (counted n) (sym (ap (λ (m : ℕ). nextUnder L image k m p) h ∙ goes refused _ _ (sym page-is ∙ q)))
-
   seek-index : (l : ℕ) (cs : List Link) → (l ≡ 0 → ⊥) → v ≡ Accepted → cs ≡ startingAt low k (children L image (l - 1) p)
       → counted n (oneMore (inTurn (λ c. nextUnder L image k (l - 1) c) cs)) ≡ counted n (nextUnder L image k l p)
   unfolding nextUnder
@@ -168,19 +148,3 @@ module _ (L : Layout) (image : List ℕ) (k n : ℕ) (p : Link) (v : Verdict) (p
           ap (counted m) (sym (direct-ends _ (behind-direct L image k (l - 1) p c d ds (sym page-is ∙ q) (sym b))))
           ∙ absent-goes L n (nextUnder L image k (l - 1) c) f first-is m (inTurn (λ c. nextUnder L image k (l - 1) c) (d ∷ ds)) e
           ∙ seek-index l (c ∷ d ∷ ds) h q b
-
-next-out : (L : Layout) (image : List ℕ) (k l : ℕ) (p : Link) → offsetFits image (p .offset) ≡ false → nextUnder L image k l p ≡ refused (PageOffset at p .offset)
-unfolding nextUnder
-next-out L image k zero p h = ends refused _ _ _ (sym (page-ends L image p h))
-next-out L image k (suc l) p h = ends refused _ _ _ (sym (page-ends L image p h))
-
-module _ (L : Layout) (image : List ℕ) (from : ℕ) (v : Verdict) (header-is : v ≡ headerFits image) where
-  pub next-refused : (r : Refusal) → v ≡ Refused r → refused r ≡ next L image from
-  unfolding next
-  next-refused r q = sym (ends refused _ _ r (sym header-is ∙ q))
-
-  pub next-on : (p : Link) (l k : ℕ) → v ≡ Accepted → p ≡ root L image → k ≡ compared L from
-      → (offsetFits image (p .offset) ≡ true → l ≡ levelOf L (page image (p .offset)))
-      → counted 0 (nextUnder L image k l p) ≡ next L image from
-  unfolding next
-  next-on = from-root L image (λ k l p. nextUnder L image k l p) (next-out L image) from v header-is

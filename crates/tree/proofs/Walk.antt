@@ -1,7 +1,7 @@
 -- The walk over a tree's pages, one step at a time: down to a page's children, along them, and from the header to the root. Assumes nothing.
-use Prim.Native.Nat.{ℕ, zero, suc, _+_, _*_, _-_, _≤_, _<_}
+use Prim.Native.Nat.{ℕ, zero, suc, _+_, _-_, _≤_, _<_}
 use mathlib.Core.Path.{_≡_, refl, sym, ap, _∙_}
-use mathlib.Core.Bool.{Bool, true, false}
+use mathlib.Core.Bool.{Bool, true, false, _||_}
 use mathlib.Core.List.{List, [], _∷_}
 use native.Mathlib.Omega.{arith}
 use lib.Dec.{leb}
@@ -21,13 +21,16 @@ use Rattle.page.specs.declared.Layout.{Layout}
 use Rattle.page.specs.declared.Level.the-variants.{Exactly}
 use Rattle.page.specs.declared.Link.{Link}
 use Rattle.page.specs.Layout.{shape, Fair}
-use Rattle.page.specs.Page.{page, countOf, levelOf, entries, offsetFits, levelFits, countsFit, pageFits}
+use Rattle.page.specs.Page.{page, countOf, levelOf, entries, offsetFits, levelFits, mayBeEmpty, countsFit, pageFits}
 use Rattle.page.proofs.PageLaws.{counts-of, few, all-of-page, page-offset, page-counts, page-ends}
-use Rattle.tree.specs.declared.Next.{Next}
 use Rattle.tree.specs.declared.Next.the-variants.{Here, NoMore}
 use Rattle.tree.specs.Tree.{root, rootLevel, endOf, linkOf, links, children, each, under, treeFits}
 use Rattle.tree.specs.Answers.{childrenFrom, nextOf}
 use Rattle.tree.proofs.Children.{next-none}
+
+or-false : (a b : Bool) → b ≡ false → (a || b) ≡ true → a ≡ true
+or-false true b e h = refl
+or-false false b e h = cc
 
 -- what an accepted page tells
 module _ (L : Layout) (image : List ℕ) (p : Link) (ok : pageFits L image p ≡ Accepted) where
@@ -45,6 +48,13 @@ module _ (L : Layout) (image : List ℕ) (p : Link) (ok : pageFits L image p ≡
   unfolding levelFits
   accepted-level l e =
       eqb-true _ l (sym (ap (λ w. levelFits w (levelOf L (page image (p .offset)))) e) ∙ counts-of L p (page image (p .offset)) accepted-counts .level)
+
+  -- and an entry, where it is not the root
+  pub some-entry : (l : ℕ) → p .level ≡ Exactly l → 1 ≤ countOf L (page image (p .offset))
+  unfolding mayBeEmpty
+  some-entry l e =
+      let g = page image (p .offset) in
+      leb-true 1 (countOf L g) (or-false _ _ (ap (λ w. mayBeEmpty w (levelOf L g)) e) (counts-of L p g accepted-counts .some))
 
 pub children-level : (L : Layout) (image : List ℕ) (l : ℕ) (p : Link) → All (λ c. c .level ≡ Exactly l) (children L image l p)
 unfolding children links linkOf

@@ -14,10 +14,8 @@ use Rattle.page.specs.Page.{page, countOf, levelOf, pageFits}
 use Rattle.tree.specs.declared.Fields.{Fields}
 use Rattle.tree.specs.declared.Found.{Found}
 use Rattle.tree.specs.declared.Found.the-variants.{Entry, Absent, Refused}
-use Rattle.tree.specs.declared.Node.{Node}
 use Rattle.tree.specs.declared.FoundNode.{FoundNode}
 use Rattle.tree.specs.declared.FoundNode.the-variants as node
-use Rattle.tree.specs.declared.Listed.{Listed}
 use Rattle.tree.specs.declared.FoundBlock.{FoundBlock}
 use Rattle.tree.specs.declared.FoundBlock.the-variants as block
 use Rattle.tree.specs.declared.Next.{Next}

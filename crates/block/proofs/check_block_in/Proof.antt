@@ -1,4 +1,4 @@
-use mathlib.Core.Path.{_≡_, ap, _∙_}
+use mathlib.Core.Path.{ap, _∙_}
 use Rattle.block.specs.Block.{trailer64, blockFits, testedBy, checkedBlock}
 use borrow.Author.Needs.{needs}
 use Rattle.block.proofs.check_block_in.Statement.{statement}

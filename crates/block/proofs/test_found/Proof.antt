@@ -1,4 +1,3 @@
-use mathlib.Core.Path.{_≡_, refl, sym, ap, ap₂, _∙_}
 use Rattle.block.proofs.BlockLaws.{fair-trailer, tested-accepted, tested-refused, unlisted, lookup-refused}
 use borrow.Author.Needs.{needs}
 use Rattle.block.proofs.test_found.Statement.{statement}

@@ -1,9 +1,11 @@
 use Prim.Native.Nat.{_-_}
-use mathlib.Core.Path.{_≡_, refl, sym, ap, _∙_}
+use mathlib.Core.Path.{sym, ap, _∙_}
 use native.Mathlib.Omega.{arith}
 use borrow.Author.Needs.{needs}
 use Rattle.tree.specs.Answers.{shown}
-use Rattle.tree.proofs.Looks.{next-chosen, next-missing, look-refused, look-leaf, look-absent, look-on, chosen-level}
+use Rattle.tree.proofs.Looks.{next-chosen, next-missing, look-absent, look-on, chosen-level, lookup-way}
+use Rattle.tree.proofs.Ways.{way-refused, way-leaf}
+use Rattle.keys.specs.declared.Sought.the-variants.{Equal}
 use Prim.Native.Nat.{ℕ, _<_}
 use borrow.Fn.Kinds.{In}
 use borrow.Fn.PlainCycle.{Measures, is, falls, and}
@@ -65,7 +67,7 @@ look-returns : (t : ℕ) → look-lts.Need-returns (
 unfolding shown
 look-returns t c =
     let a = c .before .before .before .before .before .args in
-    ap (shown (a .l)) (look-refused (a .l) (a .image .now) (a .key) (a .pages) (a .p) _ (c .before .before .before .verdict-on .ensures) (a .level) _ (c .before .verdict .given .1))
+    ap (shown (a .l)) (way-refused (a .l) (a .image .now) Equal _ (lookup-way (a .l) (a .image .now)) (a .key) (a .pages) (a .p) _ (c .before .before .before .verdict-on .ensures) (a .level) _ (c .before .verdict .given .1))
 
 look-enum-told : (t : ℕ) → look-lts.Need-enum-told (
   verdict-on-reads.Asked,
@@ -121,7 +123,7 @@ look-returns-2 : (t : ℕ) → look-lts.Need-returns-2 (
 ) (look-at t) look.Post
 look-returns-2 t c =
     let a = c .before .before .before .before .before .before .args in
-    c .leaf-for .ensures ∙ ap (shown (a .l)) (look-leaf (a .l) (a .image .now) (a .key) (a .pages) (a .p) _ (c .before .before .before .before .verdict-on .ensures) (a .level) (c .before .if1 .taken) (c .before .before .enum-told .given .1))
+    c .leaf-for .ensures ∙ ap (shown (a .l)) (way-leaf (a .l) (a .image .now) Equal _ (lookup-way (a .l) (a .image .now)) (a .key) (a .pages) (a .p) _ (c .before .before .before .before .verdict-on .ensures) (a .level) (c .before .if1 .taken) (c .before .before .enum-told .given .1))
 
 -- src/lib.rt:254:36
 look-sub-child-for : (t : ℕ) → look-lts.Need-sub-child-for (

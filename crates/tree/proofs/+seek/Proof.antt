@@ -1,11 +1,13 @@
-use Prim.Native.Nat.{_+_, _*_, _-_}
-use mathlib.Core.Path.{_≡_, refl, sym, ap, _∙_}
+use Prim.Native.Nat.{_+_, _-_}
+use mathlib.Core.Path.{sym, ap, _∙_}
 use native.Mathlib.Omega.{arith}
 use borrow.Author.Needs.{needs}
 use Rattle.tree.specs.Answers.{shown}
 use Rattle.tree.proofs.Walk.{more, next-level}
 use Rattle.tree.proofs.Pages.{few-pages}
-use Rattle.tree.proofs.Seeks.{absent-pages, present, seek-refused, seek-leaf, seek-none, seek-first, seek-last, seek-second}
+use Rattle.tree.proofs.Ways.{way-refused, way-leaf}
+use Rattle.keys.specs.declared.Sought.the-variants.{AtLeast}
+use Rattle.tree.proofs.Seeks.{absent-pages, present, listing-way, seek-none, seek-first, seek-last, seek-second}
 use Prim.Native.Nat.{ℕ, _<_}
 use borrow.Fn.Kinds.{In}
 use borrow.Fn.PlainCycle.{Measures, is, falls, and}
@@ -74,7 +76,7 @@ seek-returns : (t : ℕ) → seek-lts.Need-returns (
 unfolding shown
 seek-returns t c =
     let a = c .before .before .before .before .before .args in
-    ap (shown (a .l)) (seek-refused (a .l) (a .image .now) (a .key) (a .pages) (a .p) _ (c .before .before .before .verdict-on .ensures) (a .level) _ (c .before .checked .given .1))
+    ap (shown (a .l)) (way-refused (a .l) (a .image .now) AtLeast _ (listing-way (a .l) (a .image .now)) (a .key) (a .pages) (a .p) _ (c .before .before .before .verdict-on .ensures) (a .level) _ (c .before .checked .given .1))
 
 seek-enum-told : (t : ℕ) → seek-lts.Need-enum-told (
   verdict-on-reads.Asked,
@@ -138,7 +140,7 @@ seek-returns-2 : (t : ℕ) → seek-lts.Need-returns-2 (
 ) (seek-at t) seek.Post
 seek-returns-2 t c =
     let a = c .before .before .before .before .before .before .args in
-    c .leaf-for .ensures ∙ ap (shown (a .l)) (seek-leaf (a .l) (a .image .now) (a .key) (a .pages) (a .p) _ (c .before .before .before .before .verdict-on .ensures) (a .level) (c .before .if1 .taken) (c .before .before .enum-told .given .1))
+    c .leaf-for .ensures ∙ ap (shown (a .l)) (way-leaf (a .l) (a .image .now) AtLeast _ (listing-way (a .l) (a .image .now)) (a .key) (a .pages) (a .p) _ (c .before .before .before .before .verdict-on .ensures) (a .level) (c .before .if1 .taken) (c .before .before .enum-told .given .1))
 
 -- src/lib.rt:305:9
 seek-start-for-requires : (t : ℕ) → seek-lts.Need-start-for-requires (

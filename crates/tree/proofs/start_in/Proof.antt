@@ -1,8 +1,6 @@
-use Prim.Native.Nat.{ℕ, _+_, _*_, _-_}
-use mathlib.Core.Path.{_≡_, refl, sym, ap, _∙_}
+use Prim.Native.Nat.{_-_}
 use native.Mathlib.Omega.{arith}
 use Rattle.page.specs.Page.{countOf, levelOf}
-use Rattle.page.specs.Layout.{shape}
 use Rattle.page.proofs.PageLaws.{entries-held, few}
 use Rattle.tree.proofs.Children.{start-is, start-inside}
 use borrow.Author.Needs.{needs}
