@@ -1,20 +1,19 @@
 // Answers in words, without the line's end.
-use crate::text;
 use header::HeaderAnswer;
 use refusal::Refusal;
 use refusal::Verdict;
 
 pub fn say_refusal(wrong: Refusal) {
     let fault = wrong.fault;
-    text::say_decimal(b"refused ", refusal::number_of(fault) as u64);
-    text::say_decimal(b" at place ", wrong.place);
-    text::say_decimal(b", more ", wrong.more);
+    said::say_decimal(b"refused ", refusal::number_of(fault) as u64);
+    said::say_decimal(b" at place ", wrong.place);
+    said::say_decimal(b", more ", wrong.more);
 }
 
 pub fn say_verdict(verdict: Verdict) {
     match verdict {
         Verdict::Refused(wrong) => say_refusal(wrong),
-        Verdict::Accepted => text::say(b"accepted"),
+        Verdict::Accepted => said::say(b"accepted"),
     }
 }
 
@@ -24,22 +23,22 @@ fn say_header(answer: HeaderAnswer) {
         HeaderAnswer::Says(h) => {
             let nodes = h.nodes;
             let blocks = h.blocks;
-            text::say_decimal(b"method ", h.method as u64);
-            text::say_hex(b", nodes ", nodes.number);
-            text::say_hex(b" at ", nodes.offset);
-            text::say_hex(b", blocks ", blocks.number);
-            text::say_hex(b" at ", blocks.offset);
+            said::say_decimal(b"method ", h.method as u64);
+            said::say_hex(b", nodes ", nodes.number);
+            said::say_hex(b" at ", nodes.offset);
+            said::say_hex(b", blocks ", blocks.number);
+            said::say_hex(b" at ", blocks.offset);
         }
     }
 }
 
 // The calls that take the image alone.
 pub fn whole_lines(image: &[u8]) {
-    text::say(b"header: ");
+    said::say(b"header: ");
     say_header(pst::header(image));
-    text::say(b"\ncheck_nodes: ");
+    said::say(b"\ncheck_nodes: ");
     say_verdict(pst::check_nodes(image));
-    text::say(b"\ncheck_blocks: ");
+    said::say(b"\ncheck_blocks: ");
     say_verdict(pst::check_blocks(image));
-    text::say(b"\n");
+    said::say(b"\n");
 }

@@ -7,29 +7,29 @@ use tree::FoundBlock;
 fn say_found(found: FoundBlock) {
     match found {
         FoundBlock::Found(b, pages) => {
-            text::say_decimal(b": found, pages ", pages);
-            text::say_hex(b", block ", b.block);
-            text::say_hex(b", offset ", b.offset);
-            text::say_decimal(b", size ", b.size);
-            text::say_decimal(b", references ", b.references);
+            said::say_decimal(b": found, pages ", pages);
+            said::say_hex(b", block ", b.block);
+            said::say_hex(b", offset ", b.offset);
+            said::say_decimal(b", size ", b.size);
+            said::say_decimal(b", references ", b.references);
         }
-        FoundBlock::Absent(pages) => text::say_decimal(b": absent, pages ", pages),
+        FoundBlock::Absent(pages) => said::say_decimal(b": absent, pages ", pages),
         FoundBlock::Refused(wrong) => {
-            text::say(b": ");
+            said::say(b": ");
             answers::say_refusal(wrong);
         }
     }
-    text::say(b"\n");
+    said::say(b"\n");
 }
 
 fn test_line(image: &[u8], block: u64) {
-    text::say_hex(b"test_block ", block);
-    text::say(b": ");
+    said::say_hex(b"test_block ", block);
+    said::say(b": ");
     match pst::test_block(image, block) {
-        Sized::Size(size) => text::say_decimal(b"size ", size),
+        Sized::Size(size) => said::say_decimal(b"size ", size),
         Sized::Refused(wrong) => answers::say_refusal(wrong),
     }
-    text::say(b"\n");
+    said::say(b"\n");
 }
 
 fn say_read(read: Sized, buffer: &[u8]) {
@@ -43,15 +43,15 @@ fn say_read(read: Sized, buffer: &[u8]) {
 }
 
 fn read_line(image: &[u8], block: u64, out: &mut [u8]) {
-    text::say_hex(b"read_block ", block);
-    text::say(b": ");
+    said::say_hex(b"read_block ", block);
+    said::say(b": ");
     let read = pst::read_block(image, block, out);
     say_read(read, out);
     text::say_buffer(out);
 }
 
 fn block_lines(image: &[u8], block: u64, out: &mut [u8]) {
-    text::say_hex(b"find_block ", block);
+    said::say_hex(b"find_block ", block);
     say_found(pst::find_block(image, block));
     test_line(image, block);
     let mut short = [0xA5u8; 16];
@@ -61,7 +61,7 @@ fn block_lines(image: &[u8], block: u64, out: &mut [u8]) {
 
 // Where the listing ends, the number that it ended at is asked for.
 fn next_lines(image: &[u8], from: u64, out: &mut [u8]) -> u64 {
-    text::say_hex(b"next_block ", from);
+    said::say_hex(b"next_block ", from);
     let found = pst::next_block(image, from);
     say_found(found);
     let FoundBlock::Found(b, pages) = found else {
@@ -69,7 +69,7 @@ fn next_lines(image: &[u8], from: u64, out: &mut [u8]) -> u64 {
         return 0;
     };
     block_lines(image, b.block, out);
-    text::above(b.block, 0xFFFF_FFFF_FFFF_FFFF)
+    said::above(b.block, 0xFFFF_FFFF_FFFF_FFFF)
 }
 
 // At most so many blocks.

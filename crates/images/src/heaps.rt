@@ -6,9 +6,9 @@ use property::Property;
 use refusal::Verdict;
 
 fn say_code(code: u16, kind: &[u8]) {
-    text::say(b"type ");
+    said::say(b"type ");
     io::print_hex(STDOUT_FILENO, code as u64, 4);
-    text::say(kind);
+    said::say(kind);
 }
 
 fn say_value(code: u16, kind: &[u8], value: u32) {
@@ -18,7 +18,7 @@ fn say_value(code: u16, kind: &[u8], value: u32) {
 
 fn say_item(block: &[u8], code: u16, item: u32) {
     say_value(code, b", item ", item);
-    text::say(b" of ");
+    said::say(b" of ");
     text::say_bytes(pst::item(block, item));
 }
 
@@ -28,7 +28,7 @@ fn say_property(block: &[u8], answer: Property) {
         Property::Empty(code) => say_code(code, b", empty"),
         Property::Item(code, value) => say_item(block, code, value),
         Property::Subnode(code, value) => say_value(code, b", subnode ", value),
-        Property::Absent => text::say(b"absent"),
+        Property::Absent => said::say(b"absent"),
         Property::Refused(wrong) => answers::say_refusal(wrong),
     }
 }
@@ -39,11 +39,11 @@ fn property_line(block: &[u8], id: u16) -> bool {
     if let Property::Absent = answer {
         return false;
     }
-    text::say(b"find_property ");
+    said::say(b"find_property ");
     io::print_hex(STDOUT_FILENO, id as u64, 4);
-    text::say(b": ");
+    said::say(b": ");
     say_property(block, answer);
-    text::say(b"\n");
+    said::say(b"\n");
     true
 }
 
@@ -60,9 +60,9 @@ fn property_lines(block: &[u8]) {
             break;
         }
     }
-    text::say_hex(b"find_property below ", id);
-    text::say_decimal(b": not absent ", shown);
-    text::say(b"\n");
+    said::say_hex(b"find_property below ", id);
+    said::say_decimal(b": not absent ", shown);
+    said::say(b"\n");
 }
 
 // Nothing of data that no block can hold.
@@ -71,9 +71,9 @@ pub fn heap_lines(block: &[u8]) {
         return;
     }
     let verdict = pst::test_heap(block);
-    text::say(b"test_heap: ");
+    said::say(b"test_heap: ");
     answers::say_verdict(verdict);
-    text::say(b"\n");
+    said::say(b"\n");
     match verdict {
         Verdict::Accepted => property_lines(block),
         Verdict::Refused(_) => {

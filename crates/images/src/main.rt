@@ -7,12 +7,12 @@ mod text;
 
 fn image_lines(name: &[u8]) {
     let mut buffer = io::large_buffer();
-    let n = text::load(name, &mut buffer);
+    let n = said::load(name, &mut buffer);
     let mut out = io::large_buffer();
-    text::say(name);
-    text::say(b": ");
+    said::say(name);
+    said::say(b": ");
     text::say_bytes(&buffer[..n]);
-    text::say(b"\n");
+    said::say(b"\n");
     answers::whole_lines(&buffer[..n]);
     nodes::list_nodes(&buffer[..n], &mut out);
     blocks::list_blocks(&buffer[..n], &mut out);

@@ -9,19 +9,19 @@ ghost use Rattle.io.specs.Counts.{Counts};
 fn say_found(found: FoundNode) {
     match found {
         FoundNode::Found(n, pages) => {
-            text::say_decimal(b": found, pages ", pages);
-            text::say_hex(b", node ", n.node);
-            text::say_hex(b", data block ", n.block);
-            text::say_hex(b", subnode block ", n.subnode);
-            text::say_hex(b", parent ", n.parent);
+            said::say_decimal(b": found, pages ", pages);
+            said::say_hex(b", node ", n.node);
+            said::say_hex(b", data block ", n.block);
+            said::say_hex(b", subnode block ", n.subnode);
+            said::say_hex(b", parent ", n.parent);
         }
-        FoundNode::Absent(pages) => text::say_decimal(b": absent, pages ", pages),
+        FoundNode::Absent(pages) => said::say_decimal(b": absent, pages ", pages),
         FoundNode::Refused(wrong) => {
-            text::say(b": ");
+            said::say(b": ");
             answers::say_refusal(wrong);
         }
     }
-    text::say(b"\n");
+    said::say(b"\n");
 }
 
 // How many bytes stand at the front of the buffer.
@@ -34,7 +34,7 @@ fn say_read(read: NodeRead, buffer: &[u8]) -> usize
             text::say_bytes(&buffer[..n]);
             return n;
         }
-        NodeRead::Absent => text::say(b"absent"),
+        NodeRead::Absent => said::say(b"absent"),
         NodeRead::Refused(wrong) => answers::say_refusal(wrong),
     }
     0
@@ -43,8 +43,8 @@ fn say_read(read: NodeRead, buffer: &[u8]) -> usize
 fn read_line(image: &[u8], node: u64, out: &mut [u8]) -> usize
     ensures { λ r. ⌜ Counts r (now (out .exit)) ⌝ }
 {
-    text::say_hex(b"read_node ", node);
-    text::say(b": ");
+    said::say_hex(b"read_node ", node);
+    said::say(b": ");
     let read = pst::read_node(image, node, out);
     let n = say_read(read, out);
     text::say_buffer(out);
@@ -53,7 +53,7 @@ fn read_line(image: &[u8], node: u64, out: &mut [u8]) -> usize
 
 // Each read twice, first into a buffer that few data fit.
 fn node_lines(image: &[u8], node: u64, out: &mut [u8]) {
-    text::say_hex(b"find_node ", node);
+    said::say_hex(b"find_node ", node);
     say_found(pst::find_node(image, node));
     let mut short = [0xA5u8; 16];
     read_line(image, node, &mut short);
@@ -63,7 +63,7 @@ fn node_lines(image: &[u8], node: u64, out: &mut [u8]) {
 
 // Where the listing ends, the number that it ended at is asked for.
 fn next_lines(image: &[u8], from: u64, out: &mut [u8]) -> u64 {
-    text::say_hex(b"next_node ", from);
+    said::say_hex(b"next_node ", from);
     let found = pst::next_node(image, from);
     say_found(found);
     let FoundNode::Found(n, pages) = found else {
@@ -71,7 +71,7 @@ fn next_lines(image: &[u8], from: u64, out: &mut [u8]) -> u64 {
         return 0;
     };
     node_lines(image, n.node, out);
-    text::above(n.node, 0xFFFF_FFFF)
+    said::above(n.node, 0xFFFF_FFFF)
 }
 
 // At most so many nodes.

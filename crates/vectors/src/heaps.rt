@@ -10,32 +10,31 @@ fn say_span(span: Span) {
         Span::Refused(wrong) => answers::say_refusal(wrong),
         Span::Within(start, size) => {
             io::print_decimal(STDOUT_FILENO, size as u64);
-            text::say(b" bytes at ");
-            io::print_decimal(STDOUT_FILENO, start as u64);
-            text::say(b"\n");
+            said::say_decimal(b" bytes at ", start as u64);
+            said::say(b"\n");
         }
     }
 }
 
 fn say_part(part: &[u8]) {
     if part.len() == 0 {
-        text::say(b"no bytes\n");
+        said::say(b"no bytes\n");
         return;
     }
     text::say_bytes(part);
-    text::say(b"\n");
+    said::say(b"\n");
 }
 
 fn say_code(code: u16, kind: &[u8]) {
-    text::say(b"type ");
+    said::say(b"type ");
     io::print_hex(STDOUT_FILENO, code as u64, 4);
-    text::say(kind);
+    said::say(kind);
 }
 
 fn say_value(code: u16, kind: &[u8], value: u32) {
     say_code(code, kind);
     io::print_hex(STDOUT_FILENO, value as u64, 8);
-    text::say(b"\n");
+    said::say(b"\n");
 }
 
 fn say_property(answer: Property) {
@@ -44,24 +43,23 @@ fn say_property(answer: Property) {
         Property::Empty(code) => say_code(code, b", empty\n"),
         Property::Item(code, value) => say_value(code, b", item ", value),
         Property::Subnode(code, value) => say_value(code, b", subnode ", value),
-        Property::Absent => text::say(b"absent\n"),
+        Property::Absent => said::say(b"absent\n"),
         Property::Refused(wrong) => answers::say_refusal(wrong),
     }
 }
 
 fn heap_line(section: &[u8], block: &[u8]) {
-    text::say(section);
-    text::say(b" test_heap of ");
-    io::print_decimal(STDOUT_FILENO, block.len() as u64);
-    text::say(b" bytes: ");
+    said::say(section);
+    said::say_decimal(b" test_heap of ", block.len() as u64);
+    said::say(b" bytes: ");
     answers::say_verdict(heap::test_heap(block));
 }
 
 fn say_item_call(section: &[u8], call: &[u8], item: u32) {
-    text::say(section);
-    text::say(call);
+    said::say(section);
+    said::say(call);
     io::print_hex(STDOUT_FILENO, item as u64, 8);
-    text::say(b": ");
+    said::say(b": ");
 }
 
 fn test_line(section: &[u8], block: &[u8], item: u32) {
@@ -79,10 +77,10 @@ fn item_lines(block: &[u8], item: u32) {
 }
 
 fn property_line(section: &[u8], block: &[u8], id: u16) {
-    text::say(section);
-    text::say(b" find_property ");
+    said::say(section);
+    said::say(b" find_property ");
     io::print_hex(STDOUT_FILENO, id as u64, 4);
-    text::say(b": ");
+    said::say(b": ");
     say_property(property::find_property(block, id));
 }
 
@@ -138,7 +136,7 @@ fn table(block: &[u8]) {
 
 pub fn store_heap() {
     let mut letters = io::buffer();
-    let n = text::load(b"3.8_heap_pc.hex", &mut letters);
+    let n = said::load(b"3.8_heap_pc.hex", &mut letters);
     let mut block = [0u8; 512];
     let size = text::unhex(&letters[..n], &mut block);
     store(&block[..size]);
@@ -146,7 +144,7 @@ pub fn store_heap() {
 
 pub fn table_heap() {
     let mut letters = io::buffer();
-    let n = text::load(b"3.11_tc.hex", &mut letters);
+    let n = said::load(b"3.11_tc.hex", &mut letters);
     let mut block = [0u8; 512];
     let size = text::unhex(&letters[..n], &mut block);
     table(&block[..size]);

@@ -14,7 +14,7 @@ ghost use Rattle.io.specs.Counts.{Counts};
 // 003, 3.2: the checksum of so many bytes from 8 stands in the header at `place`.
 fn header_checksum(header: &[u8], size: usize, place: usize) {
     if header.len() < 564 {
-        text::say(b"3.2 header cut short\n");
+        said::say(b"3.2 header cut short\n");
         return;
     }
     if 556 < size {
@@ -24,16 +24,15 @@ fn header_checksum(header: &[u8], size: usize, place: usize) {
         return;
     }
     let sum = crc::checksum(&header[8..8 + size]);
-    text::say(b"3.2 checksum of ");
-    io::print_decimal(STDOUT_FILENO, size as u64);
-    text::say(b" bytes at 8: ");
+    said::say_decimal(b"3.2 checksum of ", size as u64);
+    said::say(b" bytes at 8: ");
     io::print_hex(STDOUT_FILENO, sum as u64, 8);
     text::say_whether(sum == le::field4(header, place));
 }
 
 fn header_checksums() {
     let mut letters = io::buffer();
-    let n = text::load(b"3.2_header.hex", &mut letters);
+    let n = said::load(b"3.2_header.hex", &mut letters);
     let mut header = [0u8; 564];
     let size = text::unhex(&letters[..n], &mut header);
     pages::header_line(b"3.2", &header[..size]);
@@ -42,14 +41,13 @@ fn header_checksums() {
 }
 
 fn say_call(section: &[u8], call: &[u8], method: u8, block: u64, bytes: &[u8]) {
-    text::say(section);
-    text::say(call);
-    io::print_decimal(STDOUT_FILENO, method as u64);
-    text::say(b" block ");
+    said::say(section);
+    said::say_decimal(call, method as u64);
+    said::say(b" block ");
     io::print_hex(STDOUT_FILENO, block, 8);
-    text::say(b" bytes ");
+    said::say(b" bytes ");
     text::say_bytes(bytes);
-    text::say(b": ");
+    said::say(b": ");
 }
 
 fn say_coded(bytes: &[u8], listed: &[u8]) {
@@ -149,7 +147,7 @@ fn coding_lines(letters: &[u8]) {
 
 fn coding_vectors() {
     let mut letters = io::buffer();
-    let n = text::load(b"5.2_cyclic_vectors.txt", &mut letters);
+    let n = said::load(b"5.2_cyclic_vectors.txt", &mut letters);
     coding_lines(&letters[..n]);
 }
 

@@ -1,8 +1,6 @@
 // Real pages of one file, put together at their true offsets: a header, the two roots, and one leaf of each tree.
 use crate::answers;
 use crate::pages;
-use crate::text;
-use libc::STDOUT_FILENO;
 use tree::FoundBlock;
 use tree::FoundNode;
 
@@ -50,24 +48,19 @@ const BLOCKS: [u64; 19] = [
     0x74,
 ];
 
-fn say_pages(words: &[u8], pages: u64) {
-    text::say(words);
-    io::print_decimal(STDOUT_FILENO, pages);
-}
-
 fn say_node(found: FoundNode) {
     match found {
         FoundNode::Found(n, pages) => {
-            say_pages(b"found, pages ", pages);
-            answers::say_hex(b", node ", n.node);
-            answers::say_hex(b", data block ", n.block);
-            answers::say_hex(b", subnode block ", n.subnode);
-            answers::say_hex(b", parent ", n.parent);
-            text::say(b"\n");
+            said::say_decimal(b"found, pages ", pages);
+            said::say_hex(b", node ", n.node);
+            said::say_hex(b", data block ", n.block);
+            said::say_hex(b", subnode block ", n.subnode);
+            said::say_hex(b", parent ", n.parent);
+            said::say(b"\n");
         }
         FoundNode::Absent(pages) => {
-            say_pages(b"absent, pages ", pages);
-            text::say(b"\n");
+            said::say_decimal(b"absent, pages ", pages);
+            said::say(b"\n");
         }
         FoundNode::Refused(wrong) => answers::say_refusal(wrong),
     }
@@ -76,30 +69,30 @@ fn say_node(found: FoundNode) {
 fn say_block(found: FoundBlock) {
     match found {
         FoundBlock::Found(b, pages) => {
-            say_pages(b"found, pages ", pages);
-            answers::say_hex(b", block ", b.block);
-            answers::say_hex(b", offset ", b.offset);
-            say_pages(b", size ", b.size);
-            say_pages(b", references ", b.references);
-            text::say(b"\n");
+            said::say_decimal(b"found, pages ", pages);
+            said::say_hex(b", block ", b.block);
+            said::say_hex(b", offset ", b.offset);
+            said::say_decimal(b", size ", b.size);
+            said::say_decimal(b", references ", b.references);
+            said::say(b"\n");
         }
         FoundBlock::Absent(pages) => {
-            say_pages(b"absent, pages ", pages);
-            text::say(b"\n");
+            said::say_decimal(b"absent, pages ", pages);
+            said::say(b"\n");
         }
         FoundBlock::Refused(wrong) => answers::say_refusal(wrong),
     }
 }
 
 fn node_line(image: &[u8], node: u64) {
-    answers::say_hex(b"mini find_node ", node);
-    text::say(b": ");
+    said::say_hex(b"mini find_node ", node);
+    said::say(b": ");
     say_node(tree::find_node(image, node));
 }
 
 fn block_line(image: &[u8], block: u64) {
-    answers::say_hex(b"mini find_block ", block);
-    text::say(b": ");
+    said::say_hex(b"mini find_block ", block);
+    said::say(b": ");
     say_block(tree::find_block(image, block));
 }
 
@@ -121,54 +114,41 @@ fn block_lines(image: &[u8]) {
     }
 }
 
-// Where a listing goes on: one above the number found; 0 where none stands above it.
-fn above(number: u64) -> u64 {
-    if number == 0xFFFF_FFFF_FFFF_FFFF {
-        return 0;
-    }
-    number + 1
-}
-
 fn next_node_line(image: &[u8], from: u64) -> u64 {
-    answers::say_hex(b"mini next_node ", from);
-    text::say(b": ");
+    said::say_hex(b"mini next_node ", from);
+    said::say(b": ");
     let found = tree::next_node(image, from);
     say_node(found);
     let FoundNode::Found(n, pages) = found else {
         return 0;
     };
-    above(n.node)
+    said::above(n.node, 0xFFFF_FFFF)
 }
 
 fn next_block_line(image: &[u8], from: u64) -> u64 {
-    answers::say_hex(b"mini next_block ", from);
-    text::say(b": ");
+    said::say_hex(b"mini next_block ", from);
+    said::say(b": ");
     let found = tree::next_block(image, from);
     say_block(found);
     let FoundBlock::Found(b, pages) = found else {
         return 0;
     };
-    above(b.block)
+    said::above(b.block, 0xFFFF_FFFF_FFFF_FFFF)
+}
+
+fn next_line(image: &[u8], blocks: bool, from: u64) -> u64 {
+    if blocks {
+        return next_block_line(image, from);
+    }
+    next_node_line(image, from)
 }
 
 // Two leaves hold at most 40 entries.
-fn list_nodes(image: &[u8]) {
+fn list(image: &[u8], blocks: bool) {
     let mut from: u64 = 0;
     let mut left: usize = 40;
     while left > 0 {
-        from = next_node_line(image, from);
-        if from == 0 {
-            return;
-        }
-        left -= 1;
-    }
-}
-
-fn list_blocks(image: &[u8]) {
-    let mut from: u64 = 0;
-    let mut left: usize = 40;
-    while left > 0 {
-        from = next_block_line(image, from);
+        from = next_line(image, blocks, from);
         if from == 0 {
             return;
         }
@@ -178,18 +158,18 @@ fn list_blocks(image: &[u8]) {
 
 fn tree_lines(image: &[u8]) {
     pages::header_line(b"mini", image);
-    text::say(b"mini check_nodes: ");
+    said::say(b"mini check_nodes: ");
     answers::say_verdict(tree::check_nodes(image));
-    text::say(b"mini check_blocks: ");
+    said::say(b"mini check_blocks: ");
     answers::say_verdict(tree::check_blocks(image));
     node_lines(image);
     block_lines(image);
-    list_nodes(image);
-    list_blocks(image);
+    list(image, false);
+    list(image, true);
 }
 
 pub fn real_pages() {
     let mut buffer = io::large_buffer();
-    let n = text::load(b"real_mini_64bit.img", &mut buffer);
+    let n = said::load(b"real_mini_64bit.img", &mut buffer);
     tree_lines(&buffer[..n]);
 }

@@ -10,21 +10,20 @@ fn say_header(answer: HeaderAnswer) {
         HeaderAnswer::Says(header) => {
             let nodes = header.nodes;
             let blocks = header.blocks;
-            text::say(b"method ");
-            io::print_decimal(STDOUT_FILENO, header.method as u64);
-            answers::say_hex(b", nodes ", nodes.number);
-            answers::say_hex(b" at ", nodes.offset);
-            answers::say_hex(b", blocks ", blocks.number);
-            answers::say_hex(b" at ", blocks.offset);
-            text::say(b"\n");
+            said::say_decimal(b"method ", header.method as u64);
+            said::say_hex(b", nodes ", nodes.number);
+            said::say_hex(b" at ", nodes.offset);
+            said::say_hex(b", blocks ", blocks.number);
+            said::say_hex(b" at ", blocks.offset);
+            said::say(b"\n");
         }
         HeaderAnswer::Refused(wrong) => answers::say_refusal(wrong),
     }
 }
 
 pub fn header_line(section: &[u8], image: &[u8]) {
-    text::say(section);
-    text::say(b" header: ");
+    said::say(section);
+    said::say(b" header: ");
     say_header(header::header_of(image));
 }
 
@@ -40,20 +39,19 @@ fn checksum_line(section: &[u8], bytes: &[u8], end: usize, place: usize) {
         return;
     }
     let sum = crc::checksum(&bytes[0..end]);
-    text::say(section);
-    text::say(b" checksum of ");
-    io::print_decimal(STDOUT_FILENO, end as u64);
-    text::say(b" bytes: ");
+    said::say(section);
+    said::say_decimal(b" checksum of ", end as u64);
+    said::say(b" bytes: ");
     io::print_hex(STDOUT_FILENO, sum as u64, 8);
     text::say_whether(sum == le::field4(bytes, place));
 }
 
 fn say_signature(section: &[u8], offset: u64, number: u64) -> u16 {
     let signed = page::signature(offset, number);
-    text::say(section);
-    answers::say_hex(b" signature of ", offset);
-    answers::say_hex(b" and ", number);
-    text::say(b": ");
+    said::say(section);
+    said::say_hex(b" signature of ", offset);
+    said::say_hex(b" and ", number);
+    said::say(b": ");
     io::print_hex(STDOUT_FILENO, signed as u64, 4);
     signed
 }
@@ -71,17 +69,15 @@ fn signature_line(section: &[u8], bytes: &[u8], place: usize, offset: u64, numbe
 }
 
 fn room_line(section: &[u8], size: u32) {
-    text::say(section);
-    text::say(b" room of ");
-    io::print_decimal(STDOUT_FILENO, size as u64);
-    text::say(b": ");
-    io::print_decimal(STDOUT_FILENO, block::room(size));
-    text::say(b"\n");
+    said::say(section);
+    said::say_decimal(b" room of ", size as u64);
+    said::say_decimal(b": ", block::room(size));
+    said::say(b"\n");
 }
 
 fn page_lines(section: &[u8], name: &[u8], offset: u64, number: u64) {
     let mut letters = io::buffer();
-    let n = text::load(name, &mut letters);
+    let n = said::load(name, &mut letters);
     let mut page = [0u8; 512];
     let size = text::unhex(&letters[..n], &mut page);
     checksum_line(section, &page[..size], 496, 500);
@@ -94,7 +90,7 @@ fn block_lines(section: &[u8], name: &[u8], data: u32, offset: u64, number: u64)
     }
     room_line(section, data);
     let mut letters = io::buffer();
-    let n = text::load(name, &mut letters);
+    let n = said::load(name, &mut letters);
     let mut room = [0u8; 448];
     let size = text::unhex(&letters[..n], &mut room);
     if size < 16 {
@@ -108,11 +104,11 @@ pub fn worked_pages() {
     page_lines(b"3.3", b"3.3_nbt_index_page.hex", 0x8200, 0x206);
     page_lines(b"3.4", b"3.4_nbt_leaf_page.hex", 0x7000, 0x6B);
     say_signature(b"3.5", 0x900200, 0x246);
-    text::say(b"\n");
+    said::say(b"\n");
     block_lines(b"3.6", b"3.6_xblock.hex", 432, 0x5A6600, 0x162);
     block_lines(b"3.7", b"3.7_slblock.hex", 32, 0x994D40, 0x1386);
     room_line(b"3.13", 4092);
     room_line(b"3.13", 1272);
     say_signature(b"3.13", 0x908A00, 0x1518);
-    text::say(b"\n");
+    said::say(b"\n");
 }

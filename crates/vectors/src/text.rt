@@ -4,20 +4,6 @@ ghost use Prim.Native.Nat.{_≤_, _<_};
 ghost use lib.ListN.{length};
 ghost use Rattle.io.specs.Counts.{Counts};
 
-// Reads a file of the program's folder to the front of the buffer; how many bytes it has.
-pub fn load(path: &[u8], buffer: &mut [u8]) -> usize
-    ensures { λ r. ⌜ Counts r (now (buffer .exit)) ⌝ }
-{
-    let file = os::open_read(path);
-    if file < 0 {
-        os::fail(path);
-        return 0;
-    }
-    let n = io::read_full(file, buffer);
-    libc::close(file);
-    n
-}
-
 // What a hexadecimal digit in lower case stands for; 16 for anything else.
 fn digit(character: u8) -> u8
     ensures { λ r. ⌜ r ≤ 16 ⌝ }
@@ -101,10 +87,6 @@ pub fn word_end(text: &[u8], from: usize) -> usize
     i
 }
 
-pub fn say(words: &[u8]) {
-    io::write_all(STDOUT_FILENO, words);
-}
-
 fn say_byte(byte: u8) {
     io::print_hex(STDOUT_FILENO, byte as u64, 2);
 }
@@ -120,8 +102,8 @@ pub fn say_bytes(bytes: &[u8]) {
 // Whether an answer is the one in the file, and the line's end.
 pub fn say_whether(right: bool) {
     if right {
-        say(b", as listed\n");
+        said::say(b", as listed\n");
     } else {
-        say(b", NOT as listed\n");
+        said::say(b", NOT as listed\n");
     }
 }

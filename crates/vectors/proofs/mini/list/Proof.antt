@@ -1,16 +1,16 @@
 use Prim.Native.Nat.{_≤_}
 use borrow.Author.Needs.{needs}
-use Rattle.vectors.proofs.mini.list_nodes.Statement.{statement}
-use Rattle.vectors.proofs.mini.list_nodes.Tie as tie
+use Rattle.vectors.proofs.mini.list.Statement.{statement}
+use Rattle.vectors.proofs.mini.list.Tie as tie
 
 abbrev Inv-loop : tie.InvT-loop
-Inv-loop image from₀ left₀ from left = left ≤ 40
+Inv-loop image blocks from₀ left₀ from left = left ≤ 40
 
 abbrev μ-loop : tie.MeasureT-loop
-μ-loop image from₀ left₀ from left = left
+μ-loop image blocks from₀ left₀ from left = left
 
-pub list-nodes-spec : {M : Type 1} → statement M
-list-nodes-spec =
+pub list-spec : {M : Type 1} → statement M
+list-spec =
     tie.close
     (tie.spec
     Inv-loop
