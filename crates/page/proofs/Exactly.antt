@@ -14,16 +14,16 @@ use Rattle.refusal.specs.declared.Verdict.the-variants.{Accepted, Refused}
 use Rattle.refusal.specs.Order.{AllHold, none, both, FirstFault}
 use Rattle.refusal.proofs.OrderLaws.{accepted-exactly, refused-exactly}
 use Rattle.keys.specs.Range.{ordered}
-use Rattle.keys.proofs.Climbs.{ordered-exactly}
+use Rattle.keys.proofs.Climbs.{ordered-exactly, climbing-is, is-climbing}
 use Rattle.header.specs.Header.{fileEnd}
 use Rattle.page.specs.declared.Layout.{Layout}
 use Rattle.page.specs.declared.Level.{Level}
 use Rattle.page.specs.declared.Level.the-variants.{AtRoot, Exactly}
 use Rattle.page.specs.declared.Link.{Link}
 use Rattle.page.specs.Layout.{entrySize, mostRoom}
-use Rattle.page.specs.Page.{signature, page, countOf, roomOf, sizeOf, levelOf, entries, keyIn, offsetFits, kindFits, numberFits, checksumFits, levelFits, mayBeEmpty, countsFit, climbs, keysFit, bytesRules, pageRules, pageFits}
+use Rattle.page.specs.Page.{signature, page, countOf, roomOf, sizeOf, levelOf, entries, keyIn, offsetFits, kindFits, numberFits, checksumFits, levelFits, mayBeEmpty, countsFit, keysFit, bytesRules, pageRules, pageFits}
 use Rattle.page.specs.Sound.{Wanted, MayBeEmpty, BytesSound, PageSound}
-use Rattle.page.proofs.PageLaws.{counts-of, climbing}
+use Rattle.page.proofs.PageLaws.{counts-of}
 
 wanted-of : (w : Level) (l : ℕ) → levelFits w l ≡ true → Wanted w l
 unfolding levelFits
@@ -74,7 +74,7 @@ bytes-of L p g (both k (both n (both s (both c (both o none))))) =
     let kinds = and-both (eqb (byte g (L .trailer)) (L .kind)) (eqb (byte g (L .trailer + 1)) (L .kind)) k in
     let numbers = and-both (eqb (field g (L .number) (L .word)) (p .number)) (eqb (field g (L .trailer + 2) 2) (signature (p .offset) (p .number))) n in
     let counts = counts-of L p g c in
-    let keys = ordered-exactly (p .range) (map (keyIn L) (entries L g)) .0 (climbing _ o) in
+    let keys = ordered-exactly (p .range) (map (keyIn L) (entries L g)) .0 (climbing-is _ o) in
     record {
       kind = (eqb-true _ _ (kinds .0), eqb-true _ _ (kinds .1));
       number = eqb-true _ _ (numbers .0);
@@ -90,13 +90,13 @@ bytes-of L p g (both k (both n (both s (both c (both o none))))) =
     }
 
 of-bytes : (L : Layout) (p : Link) (g : List ℕ) → BytesSound L p g → AllHold (bytesRules L p g)
-unfolding bytesRules kindFits numberFits checksumFits keysFit climbs
+unfolding bytesRules kindFits numberFits checksumFits keysFit
 of-bytes L p g h =
     both (both-and _ _ (eq-eqb _ _ (h .kind .0)) (eq-eqb _ _ (h .kind .1)))
     (both (both-and _ _ (eq-eqb _ _ (h .number)) (eq-eqb _ _ (h .signed)))
     (both (eq-eqb _ _ (h .summed))
     (both (of-counts L p g h)
-    (both (ap climbs (ordered-exactly (p .range) (map (keyIn L) (entries L g)) .1 (h .ascending, h .inside))) none))))
+    (both (is-climbing _ (ordered-exactly (p .range) (map (keyIn L) (entries L g)) .1 (h .ascending, h .inside))) none))))
 
 sound-of : (L : Layout) (image : List ℕ) (p : Link) → AllHold (pageRules L image p) → PageSound L image p
 unfolding pageRules offsetFits

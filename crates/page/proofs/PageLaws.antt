@@ -17,10 +17,10 @@ use Rattle.refusal.specs.declared.Fault.the-variants.{PageOffset}
 use Rattle.refusal.specs.Order.{_at_, Rule, inOrder, AllHold, none, both}
 use Rattle.refusal.proofs.OrderLaws.{test-goes, test-ends, accepted-exactly}
 use Rattle.keys.specs.declared.Shape.{Shape}
-use Rattle.keys.specs.declared.Order.{Order}
-use Rattle.keys.specs.declared.Order.the-variants.{Climbing, Unordered, Outside}
+use Rattle.keys.specs.declared.Order.the-variants.{Climbing}
 use Rattle.keys.specs.Records.{keyOf, records, keysOf, Holds}
 use Rattle.keys.specs.Range.{ordered}
+use Rattle.keys.proofs.Climbs.{climbing-is}
 use Rattle.header.specs.Header.{fileEnd}
 use Rattle.header.proofs.HeaderLaws.{end-inside}
 use Rattle.page.specs.declared.Layout.{Layout}
@@ -28,7 +28,7 @@ use Rattle.page.specs.declared.Level.{Level}
 use Rattle.page.specs.declared.Level.the-variants.{AtRoot, Exactly}
 use Rattle.page.specs.declared.Link.{Link}
 use Rattle.page.specs.Layout.{compared, entrySize, mostRoom, shape, Fair}
-use Rattle.page.specs.Page.{page, countOf, roomOf, sizeOf, levelOf, entries, keyIn, offsetFits, kindFits, numberFits, checksumFits, levelFits, mayBeEmpty, countsFit, climbs, keysFit, bytesRules, pageRules, pageFits}
+use Rattle.page.specs.Page.{page, countOf, roomOf, sizeOf, levelOf, entries, keyIn, offsetFits, kindFits, numberFits, checksumFits, levelFits, mayBeEmpty, countsFit, keysFit, bytesRules, pageRules, pageFits}
 
 -- what is compared of a key sought
 pub compared-whole : (L : Layout) (key : ℕ) → L .sought ≡ 8 → key < 18446744073709551616 → key ≡ compared L key
@@ -128,12 +128,6 @@ pub keys-of-entries : (L : Layout) (g : List ℕ) → keysOf (shape L (levelOf L
 unfolding keysOf keyOf keyIn entries shape
 keys-of-entries L g = refl
 
-pub climbing : (o : Order) → climbs o ≡ true → o ≡ Climbing
-unfolding climbs
-climbing Climbing e = refl
-climbing (Unordered i) e = cc
-climbing (Outside i) e = cc
-
 -- a page's tests: 6, then those of its bytes
 pub page-goes : (L : Layout) (image : List ℕ) (p : Link) → offsetFits image (p .offset) ≡ true → inOrder (bytesRules L p (page image (p .offset))) ≡ pageFits L image p
 unfolding pageFits pageRules inOrder
@@ -159,4 +153,4 @@ page-counts L image p (both o (both k (both n (both c (both t (both s none))))))
 pub page-keys : (L : Layout) (image : List ℕ) (p : Link) → AllHold (pageRules L image p)
     → ordered (p .range) (map (keyIn L) (entries L (page image (p .offset)))) ≡ Climbing
 unfolding pageRules bytesRules keysFit
-page-keys L image p (both o (both k (both n (both c (both t (both s none)))))) = climbing _ s
+page-keys L image p (both o (both k (both n (both c (both t (both s none)))))) = climbing-is _ s

@@ -10,10 +10,8 @@ use Rattle.crc.specs.Checksum.{checksum}
 use Rattle.refusal.specs.declared.Verdict.{Verdict}
 use Rattle.refusal.specs.declared.Fault.the-variants.{PageOffset, PageKind, PageNumber, PageChecksum, PageCounts, PageKeys}
 use Rattle.refusal.specs.Order.{_at_, Rule, rule, inOrder}
-use Rattle.keys.specs.declared.Order.{Order}
-use Rattle.keys.specs.declared.Order.the-variants.{Climbing, Unordered, Outside}
 use Rattle.keys.specs.Records.{records, keyOf}
-use Rattle.keys.specs.Range.{ordered}
+use Rattle.keys.specs.Range.{ordered, climbing}
 use Rattle.header.specs.Header.{fileEnd}
 use Rattle.page.specs.declared.Layout.{Layout}
 use Rattle.page.specs.declared.Level.{Level}
@@ -89,13 +87,8 @@ countsFit L p g =
     && (leb 1 (countOf L g) || mayBeEmpty (p .level) (levelOf L g))
 
 -- 11: "keys strictly ascend and lie in the page's range"
-unfoldable pub climbs : Order → Bool
-climbs Climbing = true
-climbs (Unordered i) = false
-climbs (Outside i) = false
-
 unfoldable pub keysFit : Layout → Link → List ℕ → Bool
-keysFit L p g = climbs (ordered (p .range) (map (keyIn L) (entries L g)))
+keysFit L p g = climbing (ordered (p .range) (map (keyIn L) (entries L g)))
 
 -- tests 7 to 11, of a page's bytes
 unfoldable pub bytesRules : Layout → Link → List ℕ → List Rule

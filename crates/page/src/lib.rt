@@ -13,7 +13,7 @@ ghost use lib.ListN.{length};
 ghost use Rattle.le.specs.Bytes.{byte};
 ghost use Rattle.refusal.specs.Order.{inOrder};
 ghost use Rattle.page.specs.Layout.{nbt, bbt, Fair, compared as comparedOf, entrySize, mostRoom, shape};
-ghost use Rattle.page.specs.Page.{signature as signatureOf, offsetFits, kindFits, numberFits, checksumFits, levelFits, mayBeEmpty, countsFit, climbs, keysFit, bytesRules, pageFits};
+ghost use Rattle.page.specs.Page.{signature as signatureOf, offsetFits, kindFits, numberFits, checksumFits, levelFits, mayBeEmpty, countsFit, keysFit, bytesRules, pageFits};
 
 // The bytes of an entry that hold one of its numbers.
 pub struct Column {
@@ -254,16 +254,6 @@ fn counts_fit(l: Layout, p: Link, page: &[u8]) -> bool
         & ((1 <= count) | may_be_empty(want, level))
 }
 
-fn is_climbing(order: Order) -> bool
-    ensures { λ r. ⌜ r ≡ climbs order ⌝ }
-{
-    match order {
-        Order::Climbing => true,
-        Order::Unordered(_) => false,
-        Order::Outside(_) => false,
-    }
-}
-
 // Test 11.
 fn keys_fit(l: Layout, p: Link, page: &[u8]) -> bool
     requires { ⌜ Fair l × (length (now page) ≡ 512) × (countsFit l p (now page) ≡ true) ⌝ }
@@ -274,7 +264,7 @@ fn keys_fit(l: Layout, p: Link, page: &[u8]) -> bool
     let shape = shape_of(l, count_at(page, place + 3));
     let range = p.range;
     let order = keys::check_keys(page, shape, count, range);
-    is_climbing(order)
+    keys::is_climbing(order)
 }
 
 // Tests 7 to 11, of a page's bytes.

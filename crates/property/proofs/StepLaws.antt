@@ -1,42 +1,45 @@
 -- The descent, one item at a time. Assumes nothing.
-use Prim.Native.Nat.{ℕ, zero, suc, _-_}
-use mathlib.Core.Path.{_≡_, refl, sym, _∙_}
+use Prim.Native.Nat.{ℕ, _-_}
+use mathlib.Core.Path.{_≡_, refl, sym, ap, _∙_}
 use mathlib.Core.Bool.{true, false}
-use mathlib.Core.Option.{Option, some}
-use mathlib.Core.List.{List}
-use native.Mathlib.Omega.{arith}
+use mathlib.Core.List.{List, [], _∷_}
 use borrow.Author.Tests.{eq-eqb, ne-eqb}
 use Rattle.refusal.specs.declared.Refusal.{Refusal}
 use Rattle.refusal.specs.declared.Verdict.{Verdict}
 use Rattle.refusal.specs.declared.Verdict.the-variants.{Accepted, Refused}
-use Rattle.refusal.specs.Order.{after, AllHold, none, both, here, later}
+use Rattle.refusal.specs.Order.{AllHold, none, both, here, later}
 use Rattle.refusal.proofs.OrderLaws.{goes, ends, accepted-exactly, refused-exactly}
 use Rattle.le.specs.Bytes.{byte, field}
 use Rattle.keys.specs.declared.End.the-variants.{Open}
-use Rattle.keys.specs.Search.{withKey, choice}
+use Rattle.keys.specs.declared.Sought.the-variants.{Equal}
+use Rattle.keys.specs.Search.{withKey}
+use Rattle.search.specs.Tree.{test, children}
+use Rattle.search.specs.Answer.{Answer, found, absent, refused, answer, counted}
+use Rattle.search.specs.Descent.{picked, descend}
+use Rattle.search.proofs.Steps.{step-refused, step-leaf, step-none, step-one}
 use Rattle.heap.specs.Items.{numberFits, Numbered, badItem, itemPart}
 use Rattle.heap.proofs.ItemLaws.{number-exactly}
 use Rattle.property.specs.declared.Branch.{Branch}
 use Rattle.property.specs.declared.Property.{Property}
 use Rattle.property.specs.declared.Property.the-variants.{Absent}
 use Rattle.property.specs.Root.{badTree, indexLevels, rootPart, rootItem, rootTest}
-use Rattle.property.specs.Records.{leafShape, idOf, shapeAt, recordsFit, branchRules, branchTest, recordsOf, children, leafRecords}
-use Rattle.property.specs.Descent.{answer, low, onward, descent, rootBranch, fromRoot, property}
+use Rattle.property.specs.Records.{leafShape, idOf, shapeAt, recordsFit, branchRules, recordsOf, treeOf}
+use Rattle.property.specs.Descent.{said, rootBranch, fromRoot, property}
 
 -- the test of an item, one rule at a time
 module _ (block : List ℕ) (levels : ℕ) (branch : Branch) where
-  pub branch-number : numberFits block (branch .item) ≡ false → branchTest block levels branch ≡ Refused badItem
-  unfolding branchTest branchRules
+  pub branch-number : numberFits block (branch .item) ≡ false → test (treeOf block) levels branch ≡ Refused badItem
+  unfolding test branchRules
   branch-number n = refused-exactly (branchRules block levels branch) badItem .1 (here n)
 
   pub branch-records : numberFits block (branch .item) ≡ true → recordsFit (shapeAt levels) (branch .range) (itemPart block (branch .item)) ≡ false
-      → branchTest block levels branch ≡ Refused badTree
-  unfolding branchTest branchRules
+      → test (treeOf block) levels branch ≡ Refused badTree
+  unfolding test branchRules
   branch-records n f = refused-exactly (branchRules block levels branch) badTree .1 (later n (here f))
 
   pub branch-accepted : numberFits block (branch .item) ≡ true → recordsFit (shapeAt levels) (branch .range) (itemPart block (branch .item)) ≡ true
-      → branchTest block levels branch ≡ Accepted
-  unfolding branchTest branchRules
+      → test (treeOf block) levels branch ≡ Accepted
+  unfolding test branchRules
   branch-accepted n f = accepted-exactly (branchRules block levels branch) .1 (both n (both f none))
 
   -- what an accepted item says
@@ -45,59 +48,41 @@ module _ (block : List ℕ) (levels : ℕ) (branch : Branch) where
   unfolding branchRules
   branch-both (both n (both f none)) = (n, f)
 
-  pub branch-numbered : branchTest block levels branch ≡ Accepted → Numbered block (branch .item)
-  unfolding branchTest
+  pub branch-numbered : test (treeOf block) levels branch ≡ Accepted → Numbered block (branch .item)
+  unfolding test
   branch-numbered e = number-exactly block (branch .item) .0 (branch-both (accepted-exactly (branchRules block levels branch) .0 e) .0)
 
-  pub branch-fits : branchTest block levels branch ≡ Accepted → recordsFit (shapeAt levels) (branch .range) (itemPart block (branch .item)) ≡ true
-  unfolding branchTest
+  pub branch-fits : test (treeOf block) levels branch ≡ Accepted → recordsFit (shapeAt levels) (branch .range) (itemPart block (branch .item)) ≡ true
+  unfolding test
   branch-fits e = branch-both (accepted-exactly (branchRules block levels branch) .0 e) .1
 
--- what follows the test of an item
-down : List ℕ → ℕ → ℕ → Branch → Property
-down block id zero branch = answer block (withKey idOf id (leafRecords block branch))
-down block id (suc levels) branch = onward (λ child. descent block id levels child) (choice low id (children block branch))
-
-descent-is : (block : List ℕ) (id levels : ℕ) (branch : Branch)
-    → descent block id levels branch ≡ after Property.Refused (branchTest block levels branch) (down block id levels branch)
-unfolding descent down
-descent-is block id zero branch = refl
-descent-is block id (suc levels) branch = refl
-
-pub descent-on : (block : List ℕ) (id levels : ℕ) (branch : Branch) → branchTest block (suc levels) branch ≡ Accepted
-    → descent block id (suc levels) branch ≡ onward (λ child. descent block id levels child) (choice low id (children block branch))
-unfolding down
-descent-on block id levels branch e = descent-is block id (suc levels) branch ∙ goes Property.Refused _ _ e
-
-pub descent-leaf : (block : List ℕ) (id : ℕ) (branch : Branch) → branchTest block zero branch ≡ Accepted
-    → descent block id zero branch ≡ answer block (withKey idOf id (leafRecords block branch))
-unfolding down
-descent-leaf block id branch e = descent-is block id zero branch ∙ goes Property.Refused _ _ e
+-- the count plays no part
+said-counted : (block : List ℕ) (n : ℕ) (a : Answer (List ℕ)) → said block (counted n a) ≡ said block a
+unfolding said counted
+said-counted block n (found e m) = refl
+said-counted block n (absent m) = refl
+said-counted block n (refused r) = refl
 
 -- v is what the test of the item said
-module _ (block : List ℕ) (id : ℕ) (branch : Branch) (v : Verdict) where
-  pub under-fault : (levels : ℕ) (r : Refusal) → v ≡ branchTest block levels branch → v ≡ Refused r → Property.Refused r ≡ descent block id levels branch
-  under-fault levels r t q = sym (descent-is block id levels branch ∙ ends Property.Refused _ _ r (sym t ∙ q))
+module _ (block : List ℕ) (id : ℕ) (branch : Branch) (v : Verdict) (levels : ℕ) (t : v ≡ test (treeOf block) levels branch) where
+  abbrev go : ℕ → Branch → Property
+  go l b = said block (descend (treeOf block) Equal id l b)
 
-  pub under-leaf : (levels : ℕ) → levels ≡ 0 → v ≡ branchTest block levels branch → v ≡ Accepted
-      → answer block (withKey idOf id (recordsOf leafShape (itemPart block (branch .item)))) ≡ descent block id levels branch
-  unfolding leafRecords
-  under-leaf zero h t q = sym (descent-leaf block id branch (sym t ∙ q))
-  under-leaf (suc levels) h t q = absurd (omega arith)
+  pub under-fault : (r : Refusal) → v ≡ Refused r → Property.Refused r ≡ go levels branch
+  unfolding said
+  under-fault r q = ap (said block) (sym (step-refused (treeOf block) Equal id branch v levels r t q))
 
-  pub under-absent : (levels : ℕ) → (levels ≡ 0 → ⊥) → v ≡ branchTest block levels branch → v ≡ Accepted
-      → Option.none ≡ choice low id (children block branch) → Absent ≡ descent block id levels branch
-  unfolding onward
-  under-absent zero h t q e = absurd (h refl)
-  under-absent (suc levels) h t q e = rw (descent-on block id levels branch (sym t ∙ q), ← e)
+  pub under-leaf : levels ≡ 0 → v ≡ Accepted → said block (answer (withKey idOf id (recordsOf leafShape (itemPart block (branch .item)))) 1) ≡ go levels branch
+  unfolding shapeAt
+  under-leaf h q = ap (said block) (sym (step-leaf (treeOf block) Equal id branch v levels h t q))
 
-  pub under-on : (levels : ℕ) (child : Branch) → (levels ≡ 0 → ⊥) → v ≡ branchTest block levels branch → v ≡ Accepted
-      → some child ≡ choice low id (children block branch) → descent block id (levels - 1) child ≡ descent block id levels branch
-  unfolding onward
-  under-on zero child h t q e = absurd (h refl)
-  under-on (suc levels) child h t q e =
-      let less : suc levels - 1 ≡ levels = omega arith in
-      rw (less, descent-on block id levels branch (sym t ∙ q), ← e)
+  module _ (h : levels ≡ 0 → ⊥) (q : v ≡ Accepted) where
+    pub under-absent : [] ≡ picked (treeOf block) Equal id (children (treeOf block) (levels - 1) branch) → Absent ≡ go levels branch
+    unfolding said
+    under-absent e = ap (said block) (sym (step-none (treeOf block) Equal id branch v levels h t q (sym e)))
+
+    pub under-on : (child : Branch) → child ∷ [] ≡ picked (treeOf block) Equal id (children (treeOf block) (levels - 1) branch) → go (levels - 1) child ≡ go levels branch
+    under-on child e = sym (ap (said block) (step-one (treeOf block) Equal id branch v levels child h t q (sym e)) ∙ said-counted block 1 _)
 
 -- the root item, where `root` is the user root's bytes
 module _ (block root : List ℕ) (id : ℕ) (same : root ≡ rootPart block) where
@@ -106,7 +91,7 @@ module _ (block root : List ℕ) (id : ℕ) (same : root ≡ rootPart block) whe
   from-none e = rw (← same, eq-eqb (field root 4 4) 0 e)
 
   pub from-some : (item levels : ℕ) → item ≡ field root 4 4 → levels ≡ byte root 3 → (item ≡ 0 → ⊥)
-      → descent block id levels (record { item = item; range = record { from = 0; to = Open } }) ≡ fromRoot block id
+      → said block (descend (treeOf block) Equal id levels (record { item = item; range = record { from = 0; to = Open } })) ≡ fromRoot block id
   unfolding fromRoot rootItem indexLevels rootBranch
   from-some item levels i l n = rw (← same, ← i, ← l, ne-eqb item 0 n)
 

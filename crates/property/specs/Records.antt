@@ -1,20 +1,16 @@
 -- Document 01, "Heap and properties": the items of the property tree and their records. Assumes nothing: these are definitions.
 use Prim.Native.Nat.{ℕ, zero, suc, _/_, _%_}
-use mathlib.Core.Bool.{Bool, true, false, _&&_}
+use mathlib.Core.Bool.{Bool, _&&_}
 use mathlib.Core.List.{List, [], _∷_}
 use lib.Dec.{leb, eqb}
 use lib.ListN.{length}
 use Rattle.le.specs.Bytes.{field}
-use Rattle.refusal.specs.declared.Verdict.{Verdict}
-use Rattle.refusal.specs.Order.{Rule, rule, inOrder}
-use Rattle.keys.specs.declared.End.{End}
-use Rattle.keys.specs.declared.End.the-variants.{Before}
+use Rattle.refusal.specs.Order.{Rule, rule}
 use Rattle.keys.specs.declared.Range.{Range}
 use Rattle.keys.specs.declared.Shape.{Shape}
-use Rattle.keys.specs.declared.Order.{Order}
-use Rattle.keys.specs.declared.Order.the-variants.{Climbing, Unordered, Outside}
 use Rattle.keys.specs.Records.{keyOf, records, keysOf}
-use Rattle.keys.specs.Range.{ordered}
+use Rattle.keys.specs.Range.{ordered, climbing}
+use Rattle.search.specs.Tree.{Form}
 use Rattle.heap.specs.Items.{numberFits, badItem, itemPart}
 use Rattle.property.specs.declared.Branch.{Branch}
 use Rattle.property.specs.Root.{badTree}
@@ -35,12 +31,6 @@ unfoldable pub shapeAt : ℕ → Shape
 shapeAt zero = leafShape
 shapeAt (suc levels) = indexShape
 
--- whether the test of ids found no fault
-unfoldable pub climbing : Order → Bool
-climbing Climbing = true
-climbing (Unordered i) = false
-climbing (Outside i) = false
-
 -- as many records as the bytes hold
 unfoldable pub recordCount : Shape → List ℕ → ℕ
 recordCount shape bytes = length bytes / shape .size
@@ -57,30 +47,21 @@ branchRules block levels branch =
     ∷ rule (recordsFit (shapeAt levels) (branch .range) (itemPart block (branch .item))) badTree
     ∷ []
 
-unfoldable pub branchTest : List ℕ → ℕ → Branch → Verdict
-branchTest block levels branch = inOrder (branchRules block levels branch)
-
 -- its records
 unfoldable pub recordsOf : Shape → List ℕ → List (List ℕ)
 recordsOf shape bytes = records shape (recordCount shape bytes) bytes
 
--- where the range of a record's child ends: before the next record's id; the last one's where the parent's ends
-unfoldable pub endOf : End → List (List ℕ) → End
-endOf to [] = to
-endOf to (entry ∷ entries) = Before (keyOf indexShape entry)
+-- the item to which an index record refers
+unfoldable pub childOf : Range → List ℕ → Branch
+childOf range entry = record { item = field entry 2 4; range = range }
 
--- the child of an index record: its range begins with the record's id
-unfoldable pub childOf : End → List ℕ → Branch
-childOf to entry = record { item = field entry 2 4; range = record { from = keyOf indexShape entry; to = to } }
-
-unfoldable pub childrenOf : End → List (List ℕ) → List Branch
-childrenOf to [] = []
-childrenOf to (entry ∷ entries) = childOf (endOf to entries) entry ∷ childrenOf to entries
-
--- the children of an index item, from left to right
-unfoldable pub children : List ℕ → Branch → List Branch
-children block branch = childrenOf (branch .range .to) (recordsOf indexShape (itemPart block (branch .item)))
-
--- the leaf records of an item
-unfoldable pub leafRecords : List ℕ → Branch → List (List ℕ)
-leafRecords block branch = recordsOf leafShape (itemPart block (branch .item))
+-- the property tree of a block, as a search tree
+abbrev pub treeOf : List ℕ → Form Branch (List ℕ)
+treeOf block =
+    record {
+      rules = λ levels branch. branchRules block levels branch;
+      entries = λ levels branch. recordsOf (shapeAt levels) (itemPart block (branch .item));
+      key = idOf;
+      range = λ branch. branch .range;
+      child = λ levels range entry. childOf range entry;
+    }

@@ -1,15 +1,16 @@
 -- The rules of the property tree as plain facts, with no order among them. Assumes nothing: these are definitions.
-use Prim.Native.Nat.{ℕ, suc, _%_, _≤_}
+use Prim.Native.Nat.{ℕ, _%_, _≤_}
 use mathlib.Core.Path.{_≡_}
-use mathlib.Core.List.{List, List·Memᴰ}
+use mathlib.Core.List.{List}
 use lib.ListN.{length}
 use Rattle.keys.specs.Plain.{All, Ascending, Inside}
 use Rattle.keys.specs.Records.{keysOf}
+use Rattle.search.specs.Tree.{Reached}
 use Rattle.heap.specs.Shape.{Heap}
 use Rattle.heap.specs.Items.{Numbered, itemPart}
 use Rattle.property.specs.declared.Branch.{Branch}
 use Rattle.property.specs.Root.{indexLevels, rootItem, Rooted}
-use Rattle.property.specs.Records.{shapeAt, recordCount, children}
+use Rattle.property.specs.Records.{shapeAt, recordCount, treeOf}
 use Rattle.property.specs.Descent.{rootBranch}
 
 module _ (block : List ℕ) where
@@ -25,13 +26,8 @@ module _ (block : List ℕ) where
     pub ascending : Ascending (ids levels branch)
     pub inside : All (Inside (branch .range)) (ids levels branch)
 
-  -- an item, with its level and range, that is reached from the root; root 0 reaches nothing
-  pub data Reached : ℕ → Branch → Type 0 where
-    at-root : (rootItem block ≡ 0 → ⊥) → Reached (indexLevels block) (rootBranch block)
-    below : {levels : ℕ} {branch child : Branch} → Reached (suc levels) branch → List·Memᴰ child (children block branch) → Reached levels child
-
-  -- the whole property tree is sound: every item reached from the root obeys the rules with its level and range
+  -- the whole property tree is sound: every item reached from the root obeys the rules with its level and range; root 0 reaches nothing
   pub record SoundTree : Type 0 where
     pub heap : Heap block
     pub root : Rooted block
-    pub items : (levels : ℕ) (branch : Branch) → Reached levels branch → BranchSound levels branch
+    pub items : (rootItem block ≡ 0 → ⊥) → (levels : ℕ) (branch : Branch) → Reached (treeOf block) (indexLevels block) (rootBranch block) levels branch → BranchSound levels branch

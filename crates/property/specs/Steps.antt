@@ -1,20 +1,19 @@
 -- What the steps of the descent hand on. Assumes nothing: these are definitions.
-use Prim.Native.Nat.{ℕ, _+_}
-use mathlib.Core.Option.{Option, none, some}
-use mathlib.Core.List.{List}
-use Rattle.keys.specs.declared.End.{End}
-use Rattle.keys.specs.Records.{recordAt}
-use Rattle.keys.proofs.RecordLaws.{recordsFrom}
+use Prim.Native.Nat.{ℕ}
+use mathlib.Core.Path.{_≡_}
+use mathlib.Core.List.{List, [], _∷_}
+use Rattle.keys.specs.declared.Sought.the-variants.{Equal}
+use Rattle.search.specs.Tree.{children}
+use Rattle.search.specs.Descent.{picked}
 use Rattle.property.specs.declared.Branch.{Branch}
 use Rattle.property.specs.declared.Chosen.{Chosen}
 use Rattle.property.specs.declared.Chosen.the-variants.{Child, Nobody}
-use Rattle.property.specs.Records.{indexShape, recordCount, endOf, childOf}
+use Rattle.property.specs.Records.{treeOf}
 
 -- the child that is chosen, if there is one
-abbrev pub chosenIn : Chosen → Option Branch
-chosenIn (Child branch) = some branch
-chosenIn Nobody = none
+abbrev pub chosenIn : Chosen → List Branch
+chosenIn (Child branch) = branch ∷ []
+chosenIn Nobody = []
 
--- the child of the i-th index record among these bytes
-unfoldable pub childAt : End → List ℕ → ℕ → Branch
-childAt to bytes i = childOf (endOf to (recordsFrom indexShape (recordCount indexShape bytes) bytes (i + 1))) (recordAt indexShape bytes i)
+abbrev pub ChosenIs : List ℕ → ℕ → Branch → Chosen → Type 0
+ChosenIs block id branch chosen = (levels : ℕ) → chosenIn chosen ≡ picked (treeOf block) Equal id (children (treeOf block) levels branch)

@@ -9,19 +9,22 @@ use refusal::Fault;
 use refusal::Refusal;
 use refusal::Verdict;
 ghost use mathlib.Core.Path.{_≡_};
-ghost use mathlib.Core.Option.{some};
 ghost use Prim.Native.Nat.{_+_, _*_, _≤_, _<_};
 ghost use lib.ListN.{length};
 ghost use Rattle.refusal.specs.Order.{inOrder};
 ghost use Rattle.keys.specs.Records.{recordAt};
-ghost use Rattle.keys.specs.Search.{withKey, choice};
+ghost use Rattle.keys.specs.Search.{withKey};
+ghost use Rattle.keys.proofs.RecordLaws.{recordsFrom};
+ghost use Rattle.search.specs.Tree.{test, endOf};
+ghost use Rattle.search.specs.Answer.{found, answer};
+ghost use Rattle.search.specs.Descent.{descend};
+ghost use Rattle.search.proofs.Records.{childAt};
 ghost use Rattle.heap.specs.Shape.{Heap};
 ghost use Rattle.heap.specs.Items.{Numbered, itemPart};
 ghost use Rattle.property.specs.Root.{rootFits, rootRules, rootTest, Rooted};
-ghost use Rattle.property.specs.Records.{leafShape, indexShape, shapeAt, idOf, climbing, recordsFit, recordCount, recordsOf, branchTest, endOf, children};
-ghost use Rattle.property.specs.Descent.{inPlace, valueOf, answer, low, descent, fromRoot, property};
-ghost use Rattle.keys.proofs.RecordLaws.{recordsFrom};
-ghost use Rattle.property.specs.Steps.{chosenIn, childAt};
+ghost use Rattle.property.specs.Records.{leafShape, indexShape, shapeAt, idOf, recordsFit, recordCount, recordsOf, childOf, treeOf};
+ghost use Rattle.property.specs.Descent.{inPlace, valueOf, said, fromRoot, property};
+ghost use Rattle.property.specs.Steps.{ChosenIs};
 
 // A property's type, with its number in place, nothing, or the number of the item or subnode that holds its value.
 pub enum Property {
@@ -94,16 +97,6 @@ fn shape_at(levels: usize) -> Shape
     Shape { size: 6, width: 2 }
 }
 
-fn is_climbing(order: Order) -> bool
-    ensures { λ r. ⌜ r ≡ climbing order ⌝ }
-{
-    match order {
-        Order::Climbing => true,
-        Order::Unordered(_) => false,
-        Order::Outside(_) => false,
-    }
-}
-
 // Whether an item holds records of this shape, their ids ascending in the range.
 fn records_fit(bytes: &[u8], shape: Shape, range: Range) -> bool
     requires { ⌜ (0 < shape .size) × (shape .width ≤ shape .size) × (shape .width ≤ 8) ⌝ }
@@ -111,13 +104,13 @@ fn records_fit(bytes: &[u8], shape: Shape, range: Range) -> bool
 {
     let size = shape.size;
     let order = keys::check_keys(bytes, shape, bytes.len() / size, range);
-    (1 <= bytes.len()) & (bytes.len() % size == 0) & is_climbing(order)
+    (1 <= bytes.len()) & (bytes.len() % size == 0) & keys::is_climbing(order)
 }
 
 // An item of the tree: 19 for its number, 20 for its shape.
 fn check_branch(block: &[u8], levels: usize, branch: Branch) -> Verdict
     requires { ⌜ Heap (now block) ⌝ }
-    ensures { λ r. ⌜ r ≡ branchTest (now (block .entry)) levels branch ⌝ }
+    ensures { λ r. ⌜ r ≡ test (treeOf (now (block .entry))) levels branch ⌝ }
 {
     let item = branch.item;
     if !heap::number_fits(block, item) {
@@ -163,7 +156,7 @@ fn value_of(block: &[u8], code: u16, value: u32) -> Property
 // What the i-th leaf record says.
 fn property_at(block: &[u8], records: &[u8], i: usize) -> Property
     requires { ⌜ Heap (now block) × (i * 8 + 8 ≤ length (now records)) ⌝ }
-    ensures { λ r. ⌜ r ≡ answer (now (block .entry)) (some (recordAt leafShape (now (records .entry)) i)) ⌝ }
+    ensures { λ r. ⌜ r ≡ said (now (block .entry)) (found (recordAt leafShape (now (records .entry)) i) 1) ⌝ }
 {
     value_of(
         block,
@@ -175,7 +168,7 @@ fn property_at(block: &[u8], records: &[u8], i: usize) -> Property
 // What the leaf record with the id says, in an accepted leaf item.
 fn find_in_leaf(block: &[u8], id: u16, item: u32) -> Property
     requires { ⌜ Heap (now block) × Numbered (now block) item ⌝ }
-    ensures { λ r. ⌜ r ≡ answer (now (block .entry)) (withKey idOf id (recordsOf leafShape (itemPart (now (block .entry)) item))) ⌝ }
+    ensures { λ r. ⌜ r ≡ said (now (block .entry)) (answer (withKey idOf id (recordsOf leafShape (itemPart (now (block .entry)) item))) 1) ⌝ }
 {
     let records = heap::part_of(block, item);
     let shape = Shape { size: 8, width: 2 };
@@ -189,7 +182,7 @@ fn find_in_leaf(block: &[u8], id: u16, item: u32) -> Property
 
 // Where the range of the child before the i-th index record ends.
 fn end_at(records: &[u8], i: usize, to: End) -> End
-    ensures { λ r. ⌜ r ≡ endOf to (recordsFrom indexShape (recordCount indexShape (now (records .entry))) (now (records .entry)) i) ⌝ }
+    ensures { λ r. ⌜ r ≡ endOf idOf to (recordsFrom indexShape (recordCount indexShape (now (records .entry))) (now (records .entry)) i) ⌝ }
 {
     if records.len() / 6 <= i {
         return to;
@@ -200,7 +193,7 @@ fn end_at(records: &[u8], i: usize, to: End) -> End
 // The child of the i-th index record.
 fn child_at(records: &[u8], i: usize, to: End) -> Branch
     requires { ⌜ i * 6 + 6 ≤ length (now records) ⌝ }
-    ensures { λ r. ⌜ r ≡ childAt to (now (records .entry)) i ⌝ }
+    ensures { λ r. ⌜ r ≡ childAt idOf childOf to indexShape (recordCount indexShape (now (records .entry))) (now (records .entry)) i ⌝ }
 {
     let item = le::field4(records, i * 6 + 2);
     let from = keys::key_at(records, Shape { size: 6, width: 2 }, i);
@@ -212,7 +205,7 @@ fn child_at(records: &[u8], i: usize, to: End) -> Branch
 // The child of an accepted index item under which the id must stand.
 fn choose_child(block: &[u8], id: u16, branch: Branch) -> Chosen
     requires { ⌜ Heap (now block) × Numbered (now block) (branch .item) ⌝ }
-    ensures { λ r. ⌜ chosenIn r ≡ choice low id (children (now (block .entry)) branch) ⌝ }
+    ensures { λ r. ⌜ ChosenIs (now (block .entry)) id branch r ⌝ }
 {
     let item = branch.item;
     let range = branch.range;
@@ -229,7 +222,7 @@ fn choose_child(block: &[u8], id: u16, branch: Branch) -> Chosen
 // The descent from an item so many index levels above the leaves.
 fn find_under(block: &[u8], id: u16, levels: usize, branch: Branch) -> Property
     requires { ⌜ Heap (now block) ⌝ }
-    ensures { λ r. ⌜ r ≡ descent (now (block .entry)) id levels branch ⌝ }
+    ensures { λ r. ⌜ r ≡ said (now (block .entry)) (descend (treeOf (now (block .entry))) Sought.Equal id levels branch) ⌝ }
 {
     let verdict = check_branch(block, levels, branch);
     if let Verdict::Refused(refusal) = verdict {

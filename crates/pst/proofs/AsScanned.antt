@@ -16,22 +16,21 @@ use Rattle.tree.specs.declared.Fields.{Fields}
 use Rattle.tree.specs.declared.Found.{Found}
 use Rattle.tree.specs.declared.Found.the-variants.{Entry, Absent}
 use Rattle.tree.specs.Tree.{treeFits, scan}
-use Rattle.tree.specs.Lookup.{Answer, answer, path, lookup}
-use Rattle.tree.specs.Answers.{shown, asNode, asBlock, nodeOf, blockOf}
-use Rattle.tree.specs.Listing.{nextNodeOf, nextBlockOf}
+use Rattle.search.specs.Answer.{Answer, answer}
+use Rattle.tree.specs.Lookup.{path}
+use Rattle.tree.specs.Answers.{shown, asNode, asBlock, nodeOf, blockOf, nextNodeOf, nextBlockOf}
 use Rattle.tree.specs.Listed.{Lists}
 use Rattle.tree.proofs.Demand3.{demand3}
-use Rattle.tree.proofs.Listing.{listing}
-use Rattle.tree.proofs.Lists.{lists}
+use Rattle.tree.proofs.Listing.{listing, lists}
 use Rattle.pst.specs.Meaning.{Meaning, refuses, answered, verdictMeans, nodeMeans, blockMeans}
 use Rattle.pst.specs.Outcomes.{nodesOutcome, blocksOutcome, nodeOutcome, blockOutcome, nextNodeOutcome, nextBlockOutcome}
 use Rattle.pst.proofs.Injective.{verdict-injective}
 
 -- what the calls of each tree say of an answer
-abbrev pub nodeSays : Answer → Meaning
+abbrev pub nodeSays : Answer (List ℕ) → Meaning
 nodeSays a = nodeMeans (asNode (shown nbt a))
 
-abbrev pub blockSays : Answer → Meaning
+abbrev pub blockSays : Answer (List ℕ) → Meaning
 blockSays a = blockMeans (asBlock (shown bbt a))
 
 fits : (L : Layout) (image : List ℕ) → verdictMeans (treeFits L image) ≡ answered [] → treeFits L image ≡ Accepted
@@ -39,7 +38,7 @@ unfolding verdictMeans
 fits L image e = verdict-injective (treeFits L image) Accepted e
 
 -- the leaf entry with that key, or absent where there is none, with the length of the key's path
-abbrev pub scanned : Layout → List ℕ → ℕ → Answer
+abbrev pub scanned : Layout → List ℕ → ℕ → Answer (List ℕ)
 scanned L image key = answer (withKey (keyIn L) (compared L key) (scan L image)) (length (path L image key))
 
 pub node-as-scanned : (image : List ℕ) → nodesOutcome image ≡ answered [] → (node : ℕ) → nodeOutcome image node ≡ nodeSays (scanned nbt image node)
@@ -51,7 +50,7 @@ unfolding blocksOutcome blockOutcome blockOf
 block-as-scanned image e block = ap blockSays (demand3 bbt image (fits bbt image e) .answers block)
 
 -- the entry or absent, with some count of pages
-pub record Told (says : Answer → Meaning) (outcome : Meaning) (entry : Option (List ℕ)) : Type 0 where
+pub record Told (says : Answer (List ℕ) → Meaning) (outcome : Meaning) (entry : Option (List ℕ)) : Type 0 where
   pub pages : ℕ
   pub is : outcome ≡ says (answer entry pages)
 
@@ -63,13 +62,13 @@ pub next-node-as-scanned : (image : List ℕ) → nodesOutcome image ≡ answere
 unfolding nodesOutcome nextNodeOutcome nextNodeOf
 next-node-as-scanned image e from =
     let s = listing nbt image (fits nbt image e) .answers from in
-    record { pages = s .pages; is = ap nodeSays (s .is) }
+    record { pages = s .count; is = ap nodeSays (s .is) }
 
 pub next-block-as-scanned : (image : List ℕ) → blocksOutcome image ≡ answered [] → (from : ℕ) → Told blockSays (nextBlockOutcome image from) (firstFrom bbt image from)
 unfolding blocksOutcome nextBlockOutcome nextBlockOf
 next-block-as-scanned image e from =
     let s = listing bbt image (fits bbt image e) .answers from in
-    record { pages = s .pages; is = ap blockSays (s .is) }
+    record { pages = s .count; is = ap blockSays (s .is) }
 
 -- going from 0 lists all nodes, and all blocks
 pub lists-nodes : (image : List ℕ) → Bytes image → nodesOutcome image ≡ answered [] → Lists nbt image 0 (scan nbt image)

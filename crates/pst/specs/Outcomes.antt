@@ -8,8 +8,7 @@ use Rattle.header.specs.Header.{headerOf}
 use Rattle.page.specs.Layout.{nbt, bbt}
 use Rattle.page.specs.Page.{signature}
 use Rattle.tree.specs.Tree.{treeFits}
-use Rattle.tree.specs.Answers.{nodeOf, blockOf}
-use Rattle.tree.specs.Listing.{nextNodeOf, nextBlockOf}
+use Rattle.tree.specs.Answers.{nodeOf, blockOf, nextNodeOf, nextBlockOf}
 use Rattle.block.specs.Block.{room, testOf, readOf, filledOf}
 use Rattle.node.specs.Content.{nodeContent, answerTo, filledBy}
 use Rattle.heap.specs.Shape.{heapTest}

@@ -1,97 +1,66 @@
 -- Demand 3. Assumes nothing.
-use Prim.Native.Nat.{ℕ, _≤_, _+_}
+use Prim.Native.Nat.{ℕ}
 use mathlib.Core.Path.{_≡_, refl, sym, ap, _∙_}
 use mathlib.Core.Logic.{_↔_}
-use mathlib.Core.Bool.{Bool, true, false, cond}
-use mathlib.Core.Option.{Option, none, some}
-use mathlib.Core.List.{List, [], _∷_, map, List·Memᴰ, List·Memᴰ·head, List·Memᴰ·tail}
-use native.Mathlib.Numerals.{add-one}
-use native.Mathlib.Omega.{arith}
-use lib.Dec.{eqb}
-use lib.ListN.{length}
-use borrow.Author.Tests.{eqb-true}
+use mathlib.Core.List.{List, map}
+use lib.ListN.{length, length-map}
 use Rattle.refusal.specs.declared.Verdict.the-variants.{Accepted}
+use Rattle.refusal.specs.Order.{_then_}
 use Rattle.refusal.proofs.OrderLaws.{goes, then-left, then-right}
-use Rattle.keys.specs.Plain.{Missing, Distinct}
-use Rattle.keys.specs.Search.{meets, scanned, withKey}
-use Rattle.keys.proofs.Climbs.{climbs-ascend}
-use Rattle.keys.proofs.FoundLaws.{missing-exactly}
+use Rattle.keys.specs.Plain.{Missing}
+use Rattle.keys.specs.Search.{withKey}
+use Rattle.keys.specs.declared.Sought.{Sought}
+use Rattle.search.specs.Tree.{under}
+use Rattle.search.specs.Answer.{absent, answer, refused}
+use Rattle.search.specs.Descent.{descend, path as pathIn}
+use Rattle.search.specs.Holds.{AsScanned}
+use Rattle.search.proofs.Searched.{as-scanned, path-short}
+use Rattle.search.proofs.Routes.{one-route}
 use Rattle.header.specs.Header.{headerFits}
 use Rattle.page.specs.declared.Layout.{Layout}
 use Rattle.page.specs.Layout.{compared}
 use Rattle.page.specs.Page.{keyIn}
-use Rattle.tree.specs.Tree.{root, rootLevel, under, treeFits, scan, allRoutes}
-use Rattle.tree.specs.Lookup.{found, absent, refused, answer, lookup, path}
+use Rattle.tree.specs.Tree.{root, rootLevel, treeOf, treeFits, scan, allRoutes}
+use Rattle.tree.specs.Lookup.{sought, lookup, path}
 use Rattle.tree.specs.Demand3.{Demand3, Demand3Holds}
-use Rattle.tree.proofs.Accepted.{leaves-climb}
-use Rattle.tree.proofs.Descent.{descend-is, path-short}
-use Rattle.tree.proofs.Routes.{distinct-routes}
-
--- what the plain scan finds
-module _ {A : Type 0} (key : A → ℕ) (k : ℕ) where
-  found-first : (x e : A) (xs : List A) (b : Bool) (o : Option A) → eqb (key x) k ≡ b
-      → (o ≡ some e → List·Memᴰ e xs × (key e ≡ k)) → cond b (some x) o ≡ some e → List·Memᴰ e (x ∷ xs) × (key e ≡ k)
-  found-first x e xs true o t f h = let q : e ≡ x = cc in (List·Memᴰ·head q, ap key q ∙ eqb-true (key x) k t)
-  found-first x e xs false o t f h = (List·Memᴰ·tail (f h .0), f h .1)
-
-  found-in : (e : A) (es : List A) → withKey key k es ≡ some e → List·Memᴰ e es × (key e ≡ k)
-  unfolding scanned meets
-  found-in e [] h = let clash : _≡_ {A = ℕ} 0 1 = cc in absurd (omega arith)
-  found-in e (x ∷ xs) h = found-first x e xs (eqb (key x) k) (withKey key k xs) refl (found-in e xs) h
-
-found-answer : (o : Option (List ℕ)) (m : ℕ) (e : List ℕ) (n : ℕ) → answer o m ≡ found e n → o ≡ some e
-unfolding answer
-found-answer none m e n h = cc
-found-answer (some x) m e n h = cc
-
-pub absent-answer : (o : Option (List ℕ)) (m n : ℕ) → answer o m ≡ absent n → o ≡ none
-unfolding answer
-absent-answer none m n h = refl
-absent-answer (some x) m n h = cc
+use Rattle.tree.proofs.Walk.{tree-parts}
+use Rattle.tree.proofs.Searched.{sorted, filled, placed}
 
 module _ (L : Layout) (image : List ℕ) (ok : treeFits L image ≡ Accepted) where
-  header : headerFits image ≡ Accepted
-  unfolding treeFits
-  header = then-left _ _ ok
+  both : (headerFits image then under (treeOf L image) (rootLevel L image) (root L image)) ≡ Accepted
+  both = sym (tree-parts L image) ∙ ok
 
-  tree : under L image (rootLevel L image) (root L image) ≡ Accepted
-  unfolding treeFits
-  tree = then-right _ _ ok
+  pub tree : under (treeOf L image) (rootLevel L image) (root L image) ≡ Accepted
+  tree = then-right (headerFits image) _ both
 
-  answers : (key : ℕ) → lookup L image key ≡ answer (withKey (keyIn L) (compared L key) (scan L image)) (length (path L image key))
-  unfolding lookup scan path
-  answers key = goes refused _ _ header ∙ descend-is L image (compared L key) (rootLevel L image) (root L image) tree
+  pub from-root : (s : Sought) (key : ℕ) → sought s L image key ≡ descend (treeOf L image) s (compared L key) (rootLevel L image) (root L image)
+  unfolding sought
+  from-root s key = goes refused _ _ (then-left (headerFits image) _ both)
 
-  found-there : (key : ℕ) (e : List ℕ) (n : ℕ) → lookup L image key ≡ found e n → List·Memᴰ e (scan L image) × (keyIn L e ≡ compared L key)
-  found-there key e n h =
-      found-in (keyIn L) (compared L key) e (scan L image)
-      (found-answer (withKey (keyIn L) (compared L key) (scan L image)) _ e n (sym (answers key) ∙ h))
+  pub scans : AsScanned (treeOf L image) (rootLevel L image) (root L image)
+  scans = as-scanned (treeOf L image) (sorted L image) (rootLevel L image) (root L image) tree
+
+  path-length : (key : ℕ) → length (pathIn (treeOf L image) (compared L key) (rootLevel L image) (root L image)) ≡ length (path L image key)
+  unfolding path
+  path-length key = sym (length-map (pathIn (treeOf L image) (compared L key) (rootLevel L image) (root L image)) (λ p. p .offset))
 
   absent-iff : (key : ℕ) → (lookup L image key ≡ absent (length (path L image key))) ↔ Missing (compared L key) (map (keyIn L) (scan L image))
-  unfolding answer
+  unfolding scan
   absent-iff key = (
-    (λ h. missing-exactly (keyIn L) (compared L key) (scan L image) .0 (absent-answer (withKey (keyIn L) (compared L key) (scan L image)) _ _ (sym (answers key) ∙ h))),
-    (λ m. answers key ∙ ap (λ o. answer o (length (path L image key))) (missing-exactly (keyIn L) (compared L key) (scan L image) .1 m)),
+    (λ h. scans .absent-iff (compared L key) .0 (sym (from-root _ key) ∙ h ∙ ap absent (sym (path-length key)))),
+    (λ m. from-root _ key ∙ scans .absent-iff (compared L key) .1 m ∙ ap absent (path-length key)),
   )
 
-  one-route : Distinct (allRoutes L image)
-  unfolding allRoutes rootLevel
-  one-route = distinct-routes L image (rootLevel L image) (root L image) refl tree
-
-  short : (key : ℕ) → length (path L image key) ≤ rootLevel L image + 1
-  unfolding path
-  short key = rw add-one (path-short L image (compared L key) (rootLevel L image) (root L image))
-
   holds : Demand3 L image
-  unfolding scan root
+  unfolding scan path allRoutes rootLevel placed
   holds =
       record {
-        answers = answers;
-        found-there = found-there;
-        ascending = climbs-ascend (keyIn L) (leaves-climb L image (rootLevel L image) (root L image) tree);
+        answers = λ key. from-root _ key ∙ scans .answers (compared L key) ∙ ap (answer (withKey (keyIn L) (compared L key) (scan L image))) (path-length key);
+        found-there = λ key e n h. scans .found-there (compared L key) e n (sym (from-root _ key) ∙ h);
+        ascending = scans .ascending;
         absent-iff = absent-iff;
-        one-route = one-route;
-        short = short;
+        one-route = one-route (treeOf L image) (sorted L image) (filled L image) (λ p. p .offset) (placed L image) (rootLevel L image) (root L image) refl tree;
+        short = λ key. rw (sym (path-length key)) (path-short (treeOf L image) (compared L key) (rootLevel L image) (root L image));
       }
 
 pub demand3 : Demand3Holds

@@ -1,14 +1,9 @@
 pub mod Children
 pub mod Walk
-pub mod Ways
-pub mod Looks
-pub mod Pages
+pub mod Searched
+pub mod Steps
 pub mod Seeks
-pub mod Accepted
-pub mod Descent
-pub mod Routes
 pub mod Demand3
 pub mod Listing
-pub mod Lists
 pub mod Exactly
 pub mod OffPath

@@ -1,112 +1,86 @@
 -- A listing of an accepted tree is its scan. Assumes nothing.
-use Prim.Native.Nat.{ℕ, zero, suc, _+_, _*_, _≤_, _<_}
-use mathlib.Core.Path.{_≡_, refl, sym, ap, _∙_}
-use mathlib.Core.Logic.{_↔_}
-use mathlib.Core.Option.{Option, none, some}
-use mathlib.Core.List.{List, [], _∷_, _++_}
-use native.Mathlib.Omega.{arith}
+use Prim.Native.Nat.{ℕ, zero, suc, _+_, _*_, _^_, _<_, zero-le}
+use mathlib.Core.Path.{_≡_, sym, ap, _∙_}
+use mathlib.Core.List.{List}
+use native.Mathlib.Nat.{le-trans, mod-eq-of-lt, pow-le-pow-right, zero-lt-suc}
+use lib.ListN.{take, drop}
+use Rattle.le.specs.Bytes.{part, Bytes}
+use Rattle.le.proofs.ByteLaws.{take-bytes, drop-bytes, field-below}
 use Rattle.refusal.specs.declared.Verdict.{Verdict}
 use Rattle.refusal.specs.declared.Verdict.the-variants.{Accepted, Refused}
 use Rattle.refusal.specs.Order.{after}
-use Rattle.refusal.proofs.OrderLaws.{goes, then-left, then-right}
 use Rattle.keys.specs.declared.Sought.the-variants.{AtLeast}
 use Rattle.keys.specs.Plain.{All}
-use Rattle.keys.specs.Search.{scanned, fromKey, startingAt, joined}
-use Rattle.keys.proofs.FoundLaws.{none-from}
-use Rattle.keys.proofs.SearchLaws.{all-map, right-only, left-has}
-use Rattle.keys.proofs.StartLaws.{all-starting, from-start}
+use Rattle.keys.specs.Records.{cut, keyOf, records}
+use Rattle.keys.specs.Search.{fromKey}
+use Rattle.keys.proofs.SearchLaws.{all-map}
+use Rattle.search.specs.Answer.{refused, answer}
+use Rattle.search.specs.Descent.{descend}
+use Rattle.search.specs.Holds.{Says, AtMost}
+use Rattle.search.proofs.Checked.{leaves-climb, all-leaves}
+use Rattle.search.proofs.Few.{few-read}
+use Rattle.search.proofs.Lists.{lists-all}
 use Rattle.header.specs.Header.{headerFits}
 use Rattle.page.specs.declared.Layout.{Layout}
-use Rattle.page.specs.declared.Link.{Link}
-use Rattle.page.specs.Layout.{compared}
-use Rattle.page.specs.Page.{keyIn}
-use Rattle.tree.specs.Tree.{root, rootLevel, children, under, treeFits, leaves, scan}
-use Rattle.tree.specs.Lookup.{Answer, refused, answer, oneMore, low}
-use Rattle.tree.specs.Answers.{counted}
-use Rattle.tree.specs.Listing.{orNext, inTurn, nextUnder, next}
-use Rattle.tree.specs.Listed.{AtMost, Says, ListingHolds, FewPagesHolds}
-use Rattle.tree.proofs.Accepted.{page-of, children-of, children-tiled, leaves-climb}
-use Rattle.tree.proofs.Demand3.{absent-answer}
-use Rattle.tree.proofs.Descent.{one-more}
-use Rattle.tree.proofs.Pages.{Few, few-found, few-absent, few-refused, few-pages}
-
-counted-answer : (m : ℕ) (o : Option (List ℕ)) (n : ℕ) → counted m (answer o n) ≡ answer o (m + n)
-unfolding counted answer
-counted-answer m none n = refl
-counted-answer m (some e) n = refl
-
--- the first part answers, or else those behind it
-turn-says : (key : List ℕ → ℕ) (k : ℕ) (a later : Answer) (xs ys : List (List ℕ)) → Says a (fromKey key k xs) → Says later (fromKey key k ys)
-    → Says (orNext a later) (fromKey key k (xs ++ ys))
-unfolding orNext answer
-turn-says key k a later xs ys s t = by (fromKey key k xs) refl
-  where
-    by : (o : Option (List ℕ)) → fromKey key k xs ≡ o → Says (orNext a later) (fromKey key k (xs ++ ys))
-    by none e =
-        record {
-          pages = s .pages + t .pages;
-          is =
-              ap (λ (x : Answer). orNext x later) (s .is ∙ ap (λ o. answer o (s .pages)) e)
-              ∙ ap (counted (s .pages)) (t .is) ∙ counted-answer (s .pages) (fromKey key k ys) (t .pages)
-              ∙ ap (λ o. answer o (s .pages + t .pages)) (sym (right-only key k AtLeast xs ys e));
-        }
-    by (some x) e =
-        record {
-          pages = s .pages;
-          is =
-              ap (λ (x : Answer). orNext x later) (s .is ∙ ap (λ o. answer o (s .pages)) e)
-              ∙ ap (λ o. answer o (s .pages)) (sym (left-has key k AtLeast xs ys x e));
-        }
-
-module _ (L : Layout) (image : List ℕ) (k : ℕ) where
-  in-turn-says : (l : ℕ) (cs : List Link) → All (λ c. Says (nextUnder L image k l c) (fromKey (keyIn L) k (leaves L image l c))) cs
-      → Says (inTurn (λ c. nextUnder L image k l c) cs) (fromKey (keyIn L) k (joined (λ c. leaves L image l c) cs))
-  unfolding inTurn joined scanned answer
-  in-turn-says l [] a = record { pages = 0; is = refl }
-  in-turn-says l (c ∷ cs) a = turn-says (keyIn L) k _ _ (leaves L image l c) (joined (λ c. leaves L image l c) cs) (a .0) (in-turn-says l cs (a .1))
-
-  pub next-says : (l : ℕ) (p : Link) → under L image l p ≡ Accepted → Says (nextUnder L image k l p) (fromKey (keyIn L) k (leaves L image l p))
-  unfolding nextUnder leaves
-  next-says zero p e = record { pages = 1; is = goes refused _ _ (page-of L image zero p e) }
-  next-says (suc l) p e =
-      let kids = children L image l p in
-      let t = in-turn-says l (startingAt low k kids) (all-starting low k _ kids (all-map (next-says l) kids (children-of L image l p e))) in
-      record {
-        pages = suc (t .pages);
-        is =
-            goes refused _ _ (page-of L image (suc l) p e) ∙ ap oneMore (t .is) ∙ one-more _ _
-            ∙ ap (λ o. answer o (suc (t .pages)))
-            (from-start low k (keyIn L) (λ c. leaves L image l c) (children-tiled L image l p (page-of L image (suc l) p e)) (all-map (leaves-climb L image l) kids (children-of L image l p e)));
-      }
-
-module _ (L : Layout) (image : List ℕ) (ok : treeFits L image ≡ Accepted) where
-  answers : (from : ℕ) → Says (next L image from) (fromKey (keyIn L) (compared L from) (scan L image))
-  unfolding next scan treeFits
-  answers from =
-      let s = next-says L image (compared L from) (rootLevel L image) (root L image) (then-right _ _ ok) in
-      record { pages = s .pages; is = goes refused _ _ (then-left _ _ ok) ∙ s .is }
-
-  absent-iff : (from : ℕ) → Says (next L image from) none ↔ All (λ e. keyIn L e < compared L from) (scan L image)
-  unfolding answer
-  absent-iff from = (
-    (λ t. none-from (keyIn L) (compared L from) (scan L image) .0 (absent-answer (fromKey (keyIn L) (compared L from) (scan L image)) _ _ (sym (answers from .is) ∙ t .is))),
-    (λ a. record { pages = answers from .pages; is = answers from .is ∙ ap (λ o. answer o (answers from .pages)) (none-from (keyIn L) (compared L from) (scan L image) .1 a) }),
-  )
+use Rattle.page.specs.Layout.{shape, compared}
+use Rattle.page.specs.Page.{page, entries, keyIn}
+use Rattle.tree.specs.Tree.{root, rootLevel, treeOf, treeFits, scan}
+use Rattle.tree.specs.Lookup.{sought, next}
+use Rattle.tree.specs.Listed.{ListingHolds, FewPagesHolds, ListsHolds}
+use Rattle.tree.proofs.Searched.{sorted, filled}
+use Rattle.tree.proofs.Demand3.{tree, from-root, scans}
 
 pub listing : ListingHolds
-listing L image ok = record { answers = answers L image ok; absent-iff = absent-iff L image ok }
+unfolding scan
+listing L image ok =
+    record {
+      answers = λ from. let s = scans L image ok .lists (compared L from) in record { count = s .count; is = from-root L image ok AtLeast from ∙ s .is };
+      absent-iff = λ from. (
+        (λ t. scans L image ok .lists-none (compared L from) .0 (record { count = t .count; is = sym (from-root L image ok AtLeast from) ∙ t .is })),
+        (λ a. let t = scans L image ok .lists-none (compared L from) .1 a in record { count = t .count; is = from-root L image ok AtLeast from ∙ t .is }),
+      );
+    }
 
 -- however the image stands, few pages are read
-at-most : {l : ℕ} {a : Answer} → Few l a → AtMost (2 * l + 1) a
-unfolding AtMost
-at-most (few-found h) = h
-at-most {l} (few-absent {n} h) = let q : n ≤ 2 * l + 1 = omega arith in q
-at-most few-refused = tt
-
 pub few-pages-read : FewPagesHolds
-unfolding next after AtMost
+unfolding sought after AtMost
 few-pages-read L image from = by (headerFits image)
   where
-    by : (v : Verdict) → AtMost (2 * rootLevel L image + 1) (after refused v (nextUnder L image (compared L from) (rootLevel L image) (root L image)))
-    by Accepted = at-most (few-pages L image (compared L from) (rootLevel L image) (root L image))
+    by : (v : Verdict) → AtMost (2 * rootLevel L image + 1) (after refused v (descend (treeOf L image) AtLeast (compared L from) (rootLevel L image) (root L image)))
+    by Accepted = few-read (treeOf L image) (sorted L image) (filled L image) (compared L from) (rootLevel L image) (root L image)
     by (Refused r) = tt
+
+-- the keys of entries made of bytes
+module _ (L : Layout) where
+  abbrev Short : List ℕ → Type 0
+  Short e = keyIn L e < 256 ^ L .key
+
+  cut-short : (n size : ℕ) (g : List ℕ) → Bytes g → All Short (cut n size g)
+  unfolding cut keyIn keyOf shape
+  cut-short zero size g h = tt
+  cut-short (suc n) size g h = (field-below (take size g) 0 (L .key) (take-bytes size g h), cut-short n size (drop size g) (drop-bytes size g h))
+
+  module _ (image : List ℕ) (h : Bytes image) where
+    entries-short : (offset : ℕ) → All Short (entries L (page image offset))
+    unfolding entries records page part
+    entries-short offset = cut-short _ _ (page image offset) (take-bytes 512 (drop offset image) (drop-bytes offset image h))
+
+    scan-short : All Short (scan L image)
+    unfolding scan
+    scan-short = all-leaves (treeOf L image) Short (λ l p. entries-short (p .offset)) (rootLevel L image) (root L image)
+
+  module _ (image : List ℕ) (ok : treeFits L image ≡ Accepted) where
+    here : (k : ℕ) → k < 256 ^ L .sought → Says (next L image k) (fromKey (keyIn L) k (scan L image))
+    unfolding compared
+    here k h =
+        let s = listing L image ok .answers k in
+        record { count = s .count; is = s .is ∙ ap (λ o. answer o (s .count)) (ap (λ (j : ℕ). fromKey (keyIn L) j (scan L image)) (mod-eq-of-lt h)) }
+
+pub lists : ListsHolds
+unfolding scan root
+lists L image small bytes ok =
+    let powers = pow-le-pow-right {n = 256} (zero-lt-suc 255) small in
+    let least = pow-le-pow-right {n = 256} (zero-lt-suc 255) (zero-le {n = L .sought}) in
+    lists-all (next L image) (keyIn L) (256 ^ L .sought) (scan L image) (here L image ok) least
+    (leaves-climb (treeOf L image) (sorted L image) (rootLevel L image) (root L image) (tree L image ok))
+    (all-map (λ e b. le-trans b powers) (scan L image) (scan-short L image bytes))

@@ -1,32 +1,32 @@
--- The walk over a tree's pages, one step at a time: down to a page's children, along them, and from the header to the root. Assumes nothing.
-use Prim.Native.Nat.{ℕ, zero, suc, _+_, _-_, _≤_, _<_}
+-- The whole-tree check, one step at a time. Assumes nothing.
+use Prim.Native.Nat.{ℕ, zero, suc, _+_, _-_, _≤_}
 use mathlib.Core.Path.{_≡_, refl, sym, ap, _∙_}
 use mathlib.Core.Bool.{Bool, true, false, _||_}
 use mathlib.Core.List.{List, [], _∷_}
 use native.Mathlib.Omega.{arith}
-use lib.Dec.{leb}
 use lib.ListN.{length}
-use borrow.Author.Tests.{leb-true, leb-false, eqb-true}
+use borrow.Author.Tests.{eqb-true, leb-true}
 use Rattle.refusal.specs.declared.Refusal.{Refusal}
-use Rattle.refusal.specs.declared.Fault.the-variants.{PageOffset}
 use Rattle.refusal.specs.declared.Verdict.{Verdict}
 use Rattle.refusal.specs.declared.Verdict.the-variants.{Accepted, Refused}
+use Rattle.refusal.specs.declared.Fault.the-variants.{PageOffset}
 use Rattle.refusal.specs.Order.{_at_, _then_}
-use Rattle.refusal.proofs.OrderLaws.{goes, ends}
-use Rattle.keys.specs.declared.End.{End}
-use Rattle.keys.proofs.RecordLaws.{recordsFrom, records-at, records-all}
-use Rattle.keys.proofs.SearchLaws.{All}
-use Rattle.header.specs.Header.{headerFits}
+use Rattle.refusal.proofs.OrderLaws.{goes, ends, in-order-append}
+use Rattle.keys.proofs.RecordLaws.{recordsFrom}
+use Rattle.search.specs.Tree.{endOf, offspring, test, rulesUnder, under}
+use Rattle.search.proofs.Checked.{each, each-none, each-more, under-leaf, under-index, under-refused}
+use Rattle.search.proofs.Born.{Born, of-born}
+use Rattle.header.specs.Header.{headerRules, headerFits}
 use Rattle.page.specs.declared.Layout.{Layout}
 use Rattle.page.specs.declared.Level.the-variants.{Exactly}
 use Rattle.page.specs.declared.Link.{Link}
 use Rattle.page.specs.Layout.{shape, Fair}
-use Rattle.page.specs.Page.{page, countOf, levelOf, entries, offsetFits, levelFits, mayBeEmpty, countsFit, pageFits}
+use Rattle.page.specs.Page.{page, countOf, levelOf, keyIn, offsetFits, levelFits, mayBeEmpty, countsFit, pageFits}
 use Rattle.page.proofs.PageLaws.{counts-of, few, all-of-page, page-offset, page-counts, page-ends}
 use Rattle.tree.specs.declared.Next.the-variants.{Here, NoMore}
-use Rattle.tree.specs.Tree.{root, rootLevel, endOf, linkOf, links, children, each, under, treeFits}
-use Rattle.tree.specs.Answers.{childrenFrom, nextOf}
-use Rattle.tree.proofs.Children.{next-none}
+use Rattle.tree.specs.Tree.{root, rootLevel, linkOf, treeOf, treeRules, treeFits}
+use Rattle.tree.specs.Answers.{kidsFrom, nextOf}
+use Rattle.tree.proofs.Children.{all-kids}
 
 or-false : (a b : Bool) → b ≡ false → (a || b) ≡ true → a ≡ true
 or-false true b e h = refl
@@ -56,93 +56,58 @@ module _ (L : Layout) (image : List ℕ) (p : Link) (ok : pageFits L image p ≡
       let g = page image (p .offset) in
       leb-true 1 (countOf L g) (or-false _ _ (ap (λ w. mayBeEmpty w (levelOf L g)) e) (counts-of L p g accepted-counts .some))
 
-pub children-level : (L : Layout) (image : List ℕ) (l : ℕ) (p : Link) → All (λ c. c .level ≡ Exactly l) (children L image l p)
-unfolding children links linkOf
-children-level L image l p = links-level (p .range .to) (entries L (page image (p .offset)))
-  where
-    links-level : (to : End) (es : List (List ℕ)) → All (λ c. c .level ≡ Exactly l) (links L l to es)
-    links-level to [] = tt
-    links-level to (e ∷ es) = (refl, links-level to es)
+-- the test of a page, whatever its level
+pub test-is : (L : Layout) (image : List ℕ) (l : ℕ) (p : Link) → test (treeOf L image) l p ≡ pageFits L image p
+unfolding test pageFits
+test-is L image l p = refl
 
--- the i-th child has the level below
-pub next-level : (L : Layout) (image : List ℕ) (l : ℕ) (p c : Link) (i : ℕ) → nextOf (childrenFrom L image l p i) ≡ Here c
+-- a child has the level below
+pub born-level : (L : Layout) (image : List ℕ) (l : ℕ) (c : Link) → Born (treeOf L image) l c → c .level ≡ Exactly l
+unfolding linkOf
+born-level L image l c b = of-born (treeOf L image) l (λ d. d .level ≡ Exactly l) (λ r e. refl) c b
+
+pub next-level : (L : Layout) (image : List ℕ) (l : ℕ) (p c : Link) (i : ℕ) → nextOf (kidsFrom L image l p i) ≡ Here c
     → pageFits L image c ≡ Accepted → levelOf L (page image (c .offset)) ≡ l
-unfolding childrenFrom links linkOf nextOf
+unfolding kidsFrom offspring linkOf nextOf
 next-level L image l p c i e ok = accepted-level L image c ok l (by (recordsFrom (shape L (levelOf L (page image (p .offset)))) (countOf L (page image (p .offset))) (page image (p .offset)) i) e)
   where
-    by : (es : List (List ℕ)) → nextOf (links L l (p .range .to) es) ≡ Here c → c .level ≡ Exactly l
+    by : (es : List (List ℕ)) → nextOf (offspring (keyIn L) (linkOf L l) (p .range .to) es) ≡ Here c → c .level ≡ Exactly l
     by [] e = let clash : _≡_ {A = ℕ} 0 1 = cc in absurd (omega arith)
-    by (x ∷ xs) e = let same : c ≡ linkOf L l (endOf L (p .range .to) xs) x = cc in ap (λ (z : Link). z .level) same
-
--- the children from the i-th on: one and the rest
-first-is : (L : Layout) (l : ℕ) (to : End) (x : List ℕ) (xs : List (List ℕ)) (c : Link) → nextOf (links L l to (x ∷ xs)) ≡ Here c
-    → links L l to (x ∷ xs) ≡ c ∷ links L l to xs
-unfolding links nextOf
-first-is L l to x xs c e = ap (λ (z : Link). z ∷ links L l to xs) same
-  where
-    same : linkOf L l (endOf L to xs) x ≡ c
-    same = cc
-
-module _ (L : Layout) (image : List ℕ) (l : ℕ) (p : Link) (i : ℕ) where
-  abbrev count : ℕ
-  count = countOf L (page image (p .offset))
-
-  more-here : i < count → (c : Link) → nextOf (childrenFrom L image l p i) ≡ Here c → childrenFrom L image l p i ≡ c ∷ childrenFrom L image l p (i + 1)
-  unfolding childrenFrom
-  more-here h c e =
-      let q = records-at (shape L (levelOf L (page image (p .offset)))) count (page image (p .offset)) i h in
-      ap (links L l (p .range .to)) q ∙ first-is L l (p .range .to) _ _ c (ap (λ z. nextOf (links L l (p .range .to) z)) (sym q) ∙ e)
-
-  none-here : count ≤ i → (c : Link) → nextOf (childrenFrom L image l p i) ≡ Here c → ⊥
-  unfolding childrenFrom
-  none-here h c e =
-      let w = next-none L (shape L (levelOf L (page image (p .offset)))) count (page image (p .offset)) l (p .range .to) i h in
-      let clash : _≡_ {A = ℕ} 0 1 = cc in omega arith
-
-  pub more : (c : Link) → nextOf (childrenFrom L image l p i) ≡ Here c → (i < count) × (childrenFrom L image l p i ≡ c ∷ childrenFrom L image l p (i + 1))
-  more c e = by (leb count i) refl
-    where
-      by : (b : Bool) → leb count i ≡ b → (i < count) × (childrenFrom L image l p i ≡ c ∷ childrenFrom L image l p (i + 1))
-      by true t = absurd (none-here (leb-true _ _ t) c e)
-      by false t = (leb-false _ _ t, more-here (leb-false _ _ t) c e)
+    by (x ∷ xs) e = let same : c ≡ linkOf L l (record { from = keyIn L x; to = endOf (keyIn L) (p .range .to) xs }) x = cc in ap (λ (z : Link). z .level) same
 
 -- a check of each child from the i-th on
-module _ (check : Link → Verdict) where
-  pub walk-none : (cs : List Link) → nextOf cs ≡ NoMore → Accepted ≡ each check cs
-  unfolding nextOf each
-  walk-none [] e = refl
+module _ (L : Layout) (image : List ℕ) (l : ℕ) where
+  pub walk-none : (cs : List Link) → nextOf cs ≡ NoMore → Accepted ≡ each (treeOf L image) l cs
+  unfolding nextOf
+  walk-none [] e = sym (each-none (treeOf L image) l)
   walk-none (x ∷ xs) e = cc
 
-  pub walk-refused : (cs rest : List Link) (c : Link) (v : Verdict) (r : Refusal) → cs ≡ c ∷ rest → v ≡ check c → v ≡ Refused r → v ≡ each check cs
-  unfolding each
-  walk-refused cs rest c v r e h q = q ∙ sym (ap (each check) e ∙ ends Refused _ (each check rest) r (sym h ∙ q))
+  module _ (cs rest : List Link) (c : Link) (v : Verdict) (e : cs ≡ c ∷ rest) (h : v ≡ under (treeOf L image) l c) where
+    parts : each (treeOf L image) l cs ≡ (v then each (treeOf L image) l rest)
+    parts = ap (each (treeOf L image) l) e ∙ each-more (treeOf L image) l c rest ∙ ap (λ (w : Verdict). w then each (treeOf L image) l rest) (sym h)
 
-  pub walk-on : (cs rest : List Link) (c : Link) (v : Verdict) → cs ≡ c ∷ rest → v ≡ check c → v ≡ Accepted → each check rest ≡ each check cs
-  unfolding each
-  walk-on cs rest c v e h q = sym (ap (each check) e ∙ goes Refused _ (each check rest) (sym h ∙ q))
+    pub walk-refused : (r : Refusal) → v ≡ Refused r → v ≡ each (treeOf L image) l cs
+    walk-refused r q = q ∙ sym (parts ∙ ends Refused _ _ r q)
+
+    pub walk-on : v ≡ Accepted → each (treeOf L image) l rest ≡ each (treeOf L image) l cs
+    walk-on q = sym (parts ∙ goes Refused _ _ q)
 
 -- a page, and everything under it
-module _ (L : Layout) (image : List ℕ) where
-  pub under-refused : (l : ℕ) (p : Link) (v : Verdict) (r : Refusal) → v ≡ pageFits L image p → v ≡ Refused r → v ≡ under L image l p
-  unfolding under
-  under-refused zero p v r e q = e
-  under-refused (suc l) p v r e q = q ∙ sym (ends Refused _ _ r (sym e ∙ q))
+module _ (L : Layout) (image : List ℕ) (l : ℕ) (p : Link) (v : Verdict) (page-is : v ≡ pageFits L image p) where
+  pub page-refused : (r : Refusal) → v ≡ Refused r → v ≡ under (treeOf L image) l p
+  page-refused r q = q ∙ sym (under-refused (treeOf L image) l p r (test-is L image l p ∙ sym page-is ∙ q))
 
-  pub under-leaf : (l : ℕ) (p : Link) (v : Verdict) → l ≡ 0 → v ≡ pageFits L image p → v ≡ Accepted → Accepted ≡ under L image l p
-  unfolding under
-  under-leaf l p v h e q = rw h (sym q ∙ e)
+  pub page-leaf : l ≡ 0 → v ≡ Accepted → Accepted ≡ under (treeOf L image) l p
+  page-leaf h q = rw h (sym (under-leaf (treeOf L image) p ∙ test-is L image 0 p ∙ sym page-is ∙ q))
 
-  all-children : (l : ℕ) (p : Link) → childrenFrom L image l p 0 ≡ children L image l p
-  unfolding childrenFrom children entries
-  all-children l p = ap (links L l (p .range .to)) (records-all _ _ _)
-
-  pub under-index : (l : ℕ) (p : Link) (v : Verdict) → (l ≡ 0 → ⊥) → v ≡ pageFits L image p → v ≡ Accepted
-      → each (under L image (l - 1)) (childrenFrom L image (l - 1) p 0) ≡ under L image l p
-  unfolding under
-  under-index zero p v h e q = absurd (h refl)
-  under-index (suc l) p v h e q =
-      let w : suc l - 1 ≡ l = omega arith in
-      rw (w, all-children l p) (sym (goes Refused _ _ (sym e ∙ q)))
+  pub page-index : (l ≡ 0 → ⊥) → v ≡ Accepted → each (treeOf L image) (l - 1) (kidsFrom L image (l - 1) p 0) ≡ under (treeOf L image) l p
+  page-index h q = by l h
+    where
+      by : (l : ℕ) → (l ≡ 0 → ⊥) → each (treeOf L image) (l - 1) (kidsFrom L image (l - 1) p 0) ≡ under (treeOf L image) l p
+      by zero h = absurd (h refl)
+      by (suc l) h =
+          let w : suc l - 1 ≡ l = omega arith in
+          rw (w, all-kids L image l p) (sym (under-index (treeOf L image) l p ∙ goes Refused _ _ (test-is L image (suc l) p ∙ sym page-is ∙ q)))
 
 -- where a page's offset is not allowed, its level plays no part
 module _ (L : Layout) (image : List ℕ) (p : Link) where
@@ -153,28 +118,29 @@ module _ (L : Layout) (image : List ℕ) (p : Link) where
       by true e = refl
       by false e = let w = page-ends L image p e in cc
 
-  under-out : (l : ℕ) → offsetFits image (p .offset) ≡ false → under L image l p ≡ Refused (PageOffset at p .offset)
-  unfolding under
-  under-out zero h = sym (page-ends L image p h)
-  under-out (suc l) h = ends Refused _ _ _ (sym (page-ends L image p h))
+  refuses : offsetFits image (p .offset) ≡ false → (l : ℕ) → under (treeOf L image) l p ≡ Refused (PageOffset at p .offset)
+  refuses h l = under-refused (treeOf L image) l p _ (test-is L image l p ∙ sym (page-ends L image p h))
 
-  pub under-any : (l m : ℕ) → (offsetFits image (p .offset) ≡ true → l ≡ m) → under L image l p ≡ under L image m p
+  under-any : (l m : ℕ) → (offsetFits image (p .offset) ≡ true → l ≡ m) → under (treeOf L image) l p ≡ under (treeOf L image) m p
   under-any l m f = by (offsetFits image (p .offset)) refl
     where
-      by : (b : Bool) → offsetFits image (p .offset) ≡ b → under L image l p ≡ under L image m p
-      by true e = ap (λ n. under L image n p) (f e)
-      by false e = under-out l e ∙ sym (under-out m e)
+      by : (b : Bool) → offsetFits image (p .offset) ≡ b → under (treeOf L image) l p ≡ under (treeOf L image) m p
+      by true e = ap (λ n. under (treeOf L image) n p) (f e)
+      by false e = refuses e l ∙ sym (refuses e m)
 
 -- the header, and then the tree from its root
+pub tree-parts : (L : Layout) (image : List ℕ) → treeFits L image ≡ (headerFits image then under (treeOf L image) (rootLevel L image) (root L image))
+unfolding treeFits treeRules headerFits under
+tree-parts L image = in-order-append (headerRules image) (rulesUnder (treeOf L image) (rootLevel L image) (root L image))
+
 module _ (L : Layout) (image : List ℕ) (v : Verdict) (header-is : v ≡ headerFits image) where
   pub tree-refused : (r : Refusal) → v ≡ Refused r → v ≡ treeFits L image
-  unfolding treeFits
-  tree-refused r q = q ∙ sym (ends Refused _ _ r (sym header-is ∙ q))
+  tree-refused r q = q ∙ sym (tree-parts L image ∙ ends Refused _ _ r (sym header-is ∙ q))
 
   pub tree-on : (p : Link) (l : ℕ) → v ≡ Accepted → p ≡ root L image
-      → (offsetFits image (p .offset) ≡ true → l ≡ levelOf L (page image (p .offset))) → under L image l p ≡ treeFits L image
-  unfolding treeFits rootLevel
+      → (offsetFits image (p .offset) ≡ true → l ≡ levelOf L (page image (p .offset))) → under (treeOf L image) l p ≡ treeFits L image
+  unfolding rootLevel
   tree-on p l q e f =
       under-any L image p l (levelOf L (page image (p .offset))) f
-      ∙ ap (λ (x : Link). under L image (levelOf L (page image (x .offset))) x) e
-      ∙ sym (goes Refused _ _ (sym header-is ∙ q))
+      ∙ ap (λ (x : Link). under (treeOf L image) (levelOf L (page image (x .offset))) x) e
+      ∙ sym (tree-parts L image ∙ goes Refused _ _ (sym header-is ∙ q))

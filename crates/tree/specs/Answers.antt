@@ -1,16 +1,21 @@
 -- What the lookups hand out. Assumes nothing: these are definitions.
-use Prim.Native.Nat.{ℕ, _+_}
+use Prim.Native.Nat.{ℕ}
 use mathlib.Core.Path.{_≡_}
-use mathlib.Core.List.{List, [], _∷_}
-use mathlib.Core.Option.{Option, none, some}
+use mathlib.Core.List.{List, [], _∷_, map}
 use Rattle.le.specs.Bytes.{field}
 use Rattle.refusal.specs.declared.Verdict.the-variants.{Accepted}
 use Rattle.page.specs.declared.Column.{Column}
 use Rattle.page.specs.declared.Layout.{Layout}
 use Rattle.page.specs.declared.Link.{Link}
-use Rattle.keys.proofs.RecordLaws.{recordsFrom}
+use Rattle.keys.specs.declared.End.{End}
+use Rattle.keys.specs.declared.Sought.the-variants.{Equal}
+use Rattle.keys.specs.Search.{lastAtMost}
+use Rattle.search.specs.Tree.{offspring}
+use Rattle.search.specs.Descent.{turns}
+use Rattle.search.specs.Answer.{Answer, found, absent, refused}
+use Rattle.search.proofs.Records.{childrenFrom}
 use Rattle.page.specs.Layout.{nbt, bbt, shape}
-use Rattle.page.specs.Page.{page, countOf, levelOf, pageFits}
+use Rattle.page.specs.Page.{page, countOf, levelOf, entries, keyIn, pageFits}
 use Rattle.tree.specs.declared.Fields.{Fields}
 use Rattle.tree.specs.declared.Found.{Found}
 use Rattle.tree.specs.declared.Found.the-variants.{Entry, Absent, Refused}
@@ -20,8 +25,8 @@ use Rattle.tree.specs.declared.FoundBlock.{FoundBlock}
 use Rattle.tree.specs.declared.FoundBlock.the-variants as block
 use Rattle.tree.specs.declared.Next.{Next}
 use Rattle.tree.specs.declared.Next.the-variants.{Here, NoMore}
-use Rattle.tree.specs.Tree.{links}
-use Rattle.tree.specs.Lookup.{Answer, found, absent, refused, lookup}
+use Rattle.tree.specs.Tree.{linkOf}
+use Rattle.tree.specs.Lookup.{lookup, next}
 
 abbrev pub columnOf : List ℕ → Column → ℕ
 columnOf e c = field e (c .place) (c .width)
@@ -36,7 +41,7 @@ fieldsOf L e =
       fourth = columnOf e (L .fourth);
     }
 
-unfoldable pub shown : Layout → Answer → Found
+unfoldable pub shown : Layout → Answer (List ℕ) → Found
 shown L (found e n) = Entry (fieldsOf L e) n
 shown L (absent n) = Absent n
 shown L (refused r) = Refused r
@@ -58,25 +63,28 @@ asBlock (Refused r) = block.Refused r
 unfoldable pub blockOf : List ℕ → ℕ → FoundBlock
 blockOf image key = asBlock (shown bbt (lookup bbt image key))
 
--- an answer after n pages more
-unfoldable pub counted : ℕ → Answer → Answer
-counted n (found e m) = found e (n + m)
-counted n (absent m) = absent (n + m)
-counted n (refused r) = refused r
+-- the first entry from a key on, in each tree
+unfoldable pub nextNodeOf : List ℕ → ℕ → FoundNode
+nextNodeOf image from = asNode (shown nbt (next nbt image from))
+
+unfoldable pub nextBlockOf : List ℕ → ℕ → FoundBlock
+nextBlockOf image from = asBlock (shown bbt (next bbt image from))
 
 -- the children of a page from the i-th on
-unfoldable pub childrenFrom : Layout → List ℕ → ℕ → Link → ℕ → List Link
-childrenFrom L image l p i =
-    links L l (p .range .to) (recordsFrom (shape L (levelOf L (page image (p .offset)))) (countOf L (page image (p .offset))) (page image (p .offset)) i)
+unfoldable pub kidsFrom : Layout → List ℕ → ℕ → Link → ℕ → List Link
+kidsFrom L image l p i =
+    childrenFrom (keyIn L) (linkOf L l) (p .range .to) (shape L (levelOf L (page image (p .offset)))) (countOf L (page image (p .offset))) (page image (p .offset)) i
+
+-- the chosen child of a page g, or none
+unfoldable pub chosenOf : Layout → ℕ → End → ℕ → List ℕ → List Link
+chosenOf L l to k g =
+    let kids = offspring (keyIn L) (linkOf L l) to (entries L g) in
+    turns Equal (lastAtMost k (map (λ c. c .range .from) kids)) kids
 
 -- a child that was found, or none
 unfoldable pub nextOf : List Link → Next
 nextOf [] = NoMore
 nextOf (c ∷ cs) = Here c
-
-unfoldable pub nextIn : Option Link → Next
-nextIn none = NoMore
-nextIn (some c) = Here c
 
 -- an accepted page here has this level
 abbrev pub LevelIs : Layout → List ℕ → ℕ → Link → Type 0

@@ -8,11 +8,12 @@ use Rattle.le.specs.Bytes.{part}
 use Rattle.refusal.specs.declared.Verdict.the-variants.{Accepted}
 use Rattle.keys.specs.Plain.{All, Ascending, Missing, Distinct}
 use Rattle.keys.specs.Search.{withKey}
+use Rattle.search.specs.Answer.{found, absent, answer}
 use Rattle.page.specs.declared.Layout.{Layout}
 use Rattle.page.specs.Layout.{compared, Fair}
 use Rattle.page.specs.Page.{page, keyIn}
 use Rattle.tree.specs.Tree.{rootLevel, treeFits, scan, allRoutes}
-use Rattle.tree.specs.Lookup.{found, absent, answer, lookup, path}
+use Rattle.tree.specs.Lookup.{lookup, path}
 
 pub record Demand3 (L : Layout) (image : List ℕ) : Type 0 where
   -- for every key the quick descent answers as a plain scan of all leaf entries does, and never refuses; the page count is the length of the key's path

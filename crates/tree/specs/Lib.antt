@@ -1,7 +1,6 @@
 pub mod Tree
 pub mod Lookup
 pub mod Answers
-pub mod Listing
 pub mod Listed
 pub mod Demand3
 pub mod Sound

@@ -16,16 +16,20 @@ ghost use mathlib.Core.List.{map};
 ghost use Prim.Native.Nat.{_+_, _*_, _≤_, _<_};
 ghost use lib.ListN.{length};
 ghost use Rattle.le.specs.Bytes.{part};
-ghost use Rattle.keys.specs.Records.{Holds, recordAt};
-ghost use Rattle.keys.specs.Search.{lastAtMost, scanned, choice, start};
+ghost use Rattle.keys.specs.Records.{Holds};
+ghost use Rattle.keys.specs.Search.{lastAtMost, scanned, start};
 ghost use Rattle.keys.proofs.RecordLaws.{recordsFrom};
+ghost use Rattle.search.specs.Tree.{endOf, offspring, children, under};
+ghost use Rattle.search.specs.Answer.{answer, counted};
+ghost use Rattle.search.specs.Descent.{picked, descend};
+ghost use Rattle.search.proofs.Checked.{each};
+ghost use Rattle.search.proofs.Records.{childAt, childrenFrom};
 ghost use Rattle.header.specs.Header.{headerFits};
 ghost use Rattle.page.specs.Layout.{Fair, Within, nbt, bbt, shape};
 ghost use Rattle.page.specs.Page.{page, countOf, levelOf, entries, keyIn, offsetFits, countsFit, pageFits};
-ghost use Rattle.tree.specs.Tree.{root, endOf, linkOf, links, children, each, under, treeFits};
-ghost use Rattle.tree.specs.Lookup.{low, answer, descend, lookup};
-ghost use Rattle.tree.specs.Answers.{columnOf, fieldsOf, shown, asNode, nodeOf, asBlock, blockOf, counted, childrenFrom, nextOf, nextIn, LevelIs};
-ghost use Rattle.tree.specs.Listing.{nextUnder, next, nextNodeOf, nextBlockOf};
+ghost use Rattle.tree.specs.Tree.{root, linkOf, treeOf, treeFits};
+ghost use Rattle.tree.specs.Lookup.{lookup, next};
+ghost use Rattle.tree.specs.Answers.{columnOf, fieldsOf, shown, asNode, nodeOf, asBlock, blockOf, nextNodeOf, nextBlockOf, kidsFrom, chosenOf, nextOf, LevelIs};
 
 // A leaf entry's numbers, without its padding.
 pub struct Fields {
@@ -79,7 +83,7 @@ pub enum Next {
 // Where the range of the child before the i-th entry ends.
 fn end_at(l: Layout, page: &[u8], shape: Shape, count: usize, i: usize, to: End) -> End
     requires { ⌜ Holds shape count (now page) × (shape .width ≡ l .key) ⌝ }
-    ensures { λ r. ⌜ r ≡ endOf l to (recordsFrom shape count (now (page .entry)) i) ⌝ }
+    ensures { λ r. ⌜ r ≡ endOf (keyIn l) to (recordsFrom shape count (now (page .entry)) i) ⌝ }
 {
     if count <= i {
         return to;
@@ -98,7 +102,7 @@ fn link_at(
     i: usize,
 ) -> Link
     requires { ⌜ Holds shape count (now page) × (shape .width ≡ l .key) × (l .word * 3 ≤ shape .size) × (l .word ≤ 8) × (i < count) × (count ≤ 255) ⌝ }
-    ensures { λ r. ⌜ r ≡ linkOf l level (endOf l to (recordsFrom shape count (now (page .entry)) (i + 1))) (recordAt shape (now (page .entry)) i) ⌝ }
+    ensures { λ r. ⌜ r ≡ childAt (keyIn l) (linkOf l level) to shape count (now (page .entry)) i ⌝ }
 {
     let word = l.word;
     let place = i * shape.size;
@@ -117,7 +121,7 @@ fn link_at(
 // The child of the i-th entry of a page whose counts fit, if there is such an entry.
 fn next_link(l: Layout, page: &[u8], level: usize, p: Link, i: usize) -> Next
     requires { ⌜ Fair l × (length (now page) ≡ 512) × (countsFit l p (now page) ≡ true) ⌝ }
-    ensures { λ r. ⌜ r ≡ nextOf (links l level (p .range .to) (recordsFrom (shape l (levelOf l (now (page .entry)))) (countOf l (now (page .entry))) (now (page .entry)) i)) ⌝ }
+    ensures { λ r. ⌜ r ≡ nextOf (childrenFrom (keyIn l) (linkOf l level) (p .range .to) (shape l (levelOf l (now (page .entry)))) (countOf l (now (page .entry))) (now (page .entry)) i) ⌝ }
 {
     let place = l.counts;
     let count = page::count_at(page, place);
@@ -134,7 +138,7 @@ fn next_link(l: Layout, page: &[u8], level: usize, p: Link, i: usize) -> Next
 // The same in an image, of an accepted page.
 fn child_at(image: &[u8], l: Layout, level: usize, p: Link, i: usize) -> Next
     requires { ⌜ Fair l × (pageFits l (now image) p ≡ Verdict.Accepted) ⌝ }
-    ensures { λ r. ⌜ r ≡ nextOf (childrenFrom l (now (image .entry)) level p i) ⌝ }
+    ensures { λ r. ⌜ r ≡ nextOf (kidsFrom l (now (image .entry)) level p i) ⌝ }
 {
     let at = p.offset as usize;
     next_link(l, &image[at..at + 512], level, p, i)
@@ -151,7 +155,7 @@ fn verdict_on(image: &[u8], l: Layout, p: Link) -> Verdict
 // The check of a page of a level and of everything under it.
 fn check_under(image: &[u8], l: Layout, level: usize, p: Link) -> Verdict
     requires { ⌜ Fair l ⌝ }
-    ensures { λ r. ⌜ r ≡ under l (now (image .entry)) level p ⌝ }
+    ensures { λ r. ⌜ r ≡ under (treeOf l (now (image .entry))) level p ⌝ }
 {
     let verdict = verdict_on(image, l, p);
     let Verdict::Accepted = verdict else {
@@ -166,7 +170,7 @@ fn check_under(image: &[u8], l: Layout, level: usize, p: Link) -> Verdict
 // The check of an accepted page's children, from the i-th on, each with everything under it.
 fn check_children(image: &[u8], l: Layout, level: usize, p: Link, i: usize) -> Verdict
     requires { ⌜ Fair l × (pageFits l (now image) p ≡ Verdict.Accepted) × (i ≤ 255) ⌝ }
-    ensures { λ r. ⌜ r ≡ each (under l (now (image .entry)) level) (childrenFrom l (now (image .entry)) level p i) ⌝ }
+    ensures { λ r. ⌜ r ≡ each (treeOf l (now (image .entry))) level (kidsFrom l (now (image .entry)) level p i) ⌝ }
 {
     let next = child_at(image, l, level, p, i);
     let Next::Here(child) = next else {
@@ -182,7 +186,7 @@ fn check_children(image: &[u8], l: Layout, level: usize, p: Link, i: usize) -> V
 // The chosen child of a page whose counts fit: that of the last entry whose key is at most the key sought.
 fn choose(l: Layout, page: &[u8], level: usize, p: Link, key: u64) -> Next
     requires { ⌜ Fair l × (length (now page) ≡ 512) × (countsFit l p (now page) ≡ true) ⌝ }
-    ensures { λ r. ⌜ r ≡ nextIn (choice low key (links l level (p .range .to) (entries l (now (page .entry))))) ⌝ }
+    ensures { λ r. ⌜ r ≡ nextOf (chosenOf l level (p .range .to) key (now (page .entry))) ⌝ }
 {
     let place = l.counts;
     let count = page::count_at(page, place);
@@ -200,7 +204,7 @@ fn choose(l: Layout, page: &[u8], level: usize, p: Link, key: u64) -> Next
 // The same in an image, of an accepted page.
 fn child_for(image: &[u8], l: Layout, level: usize, p: Link, key: u64) -> Next
     requires { ⌜ Fair l × (pageFits l (now image) p ≡ Verdict.Accepted) ⌝ }
-    ensures { λ r. ⌜ r ≡ nextIn (choice low key (children l (now (image .entry)) level p)) ⌝ }
+    ensures { λ r. ⌜ r ≡ nextOf (picked (treeOf l (now (image .entry))) Sought.Equal key (children (treeOf l (now (image .entry))) level p)) ⌝ }
 {
     let at = p.offset as usize;
     choose(l, &image[at..at + 512], level, p, key)
@@ -262,7 +266,7 @@ fn leaf_for(image: &[u8], l: Layout, p: Link, sought: Sought, key: u64, pages: u
 // The descent from a page of a level, when so many pages have been read.
 fn look(image: &[u8], l: Layout, level: usize, p: Link, key: u64, pages: u64) -> Found
     requires { ⌜ Fair l × LevelIs l (now image) level p × (pages + level ≤ 1000) ⌝ }
-    ensures { λ r. ⌜ r ≡ shown l (counted pages (descend l (now (image .entry)) key level p)) ⌝ }
+    ensures { λ r. ⌜ r ≡ shown l (counted pages (descend (treeOf l (now (image .entry))) Sought.Equal key level p)) ⌝ }
 {
     let verdict = verdict_on(image, l, p);
     if let Verdict::Refused(refusal) = verdict {
@@ -302,7 +306,7 @@ fn start_for(image: &[u8], l: Layout, p: Link, key: u64) -> usize
 // behind one that answers absent begins above the key, so it never answers absent itself.
 fn seek(image: &[u8], l: Layout, level: usize, p: Link, key: u64, pages: u64) -> Found
     requires { ⌜ Fair l × LevelIs l (now image) level p × (level ≤ 255) × (pages + 512 * level ≤ 200000) ⌝ }
-    ensures { λ r. ⌜ r ≡ shown l (counted pages (nextUnder l (now (image .entry)) key level p)) ⌝ }
+    ensures { λ r. ⌜ r ≡ shown l (counted pages (descend (treeOf l (now (image .entry))) Sought.AtLeast key level p)) ⌝ }
 {
     let checked = verdict_on(image, l, p);
     if let Verdict::Refused(wrong) = checked {

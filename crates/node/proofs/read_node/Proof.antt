@@ -1,5 +1,5 @@
 use mathlib.Core.Path.{_≡_, refl, sym, ap, ap₂, _∙_, subst}
-use Rattle.tree.proofs.Looks.{node-header}
+use Rattle.tree.proofs.Steps.{node-header}
 use Rattle.node.proofs.Outcomes.{outcome-of, node-found, gone-outcome}
 use borrow.Author.Needs.{needs}
 use Rattle.node.proofs.read_node.Statement.{statement}

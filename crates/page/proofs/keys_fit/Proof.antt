@@ -1,7 +1,7 @@
-use Rattle.keys.specs.Range.{ordered}
+use Rattle.keys.specs.Range.{ordered, climbing}
 use mathlib.Core.Path.{_≡_, refl, sym, ap, _∙_}
 use native.Mathlib.Omega.{arith}
-use Rattle.page.specs.Page.{countOf, levelOf, climbs, keysFit}
+use Rattle.page.specs.Page.{countOf, levelOf, keysFit}
 use Rattle.page.proofs.PageLaws.{entries-held, keys-of-entries}
 use borrow.Author.Needs.{needs}
 use Rattle.page.proofs.keys_fit.Statement.{statement}
@@ -19,7 +19,7 @@ unfolding keysFit countOf levelOf
 returns c =
     let a = c .before .before .before .before .before .before .before .args in
     c .is-climbing .ensures
-    ∙ ap climbs
+    ∙ ap climbing
     (c .before .check-keys .ensures
     ∙ ap (ordered (a .p .range)) (rw (c .before .before .before .shape-of .ensures, c .before .before .before .before .count-at2 .ensures .0, c .before .before .before .before .before .count-at .ensures .0) (keys-of-entries (a .l) (a .page .now))))
 

@@ -44,14 +44,14 @@ pub +find-under-spec : {M : Type 1} → statement M
     (λ c. search needs)
     (λ c.
     let a = c .before .before .before .before .before .args in
-    under-fault (a .block .now) (a .id) (a .branch) _ (a .levels) _ (c .before .before .before .check-branch .ensures) (c .before .verdict .given .1))
+    under-fault (a .block .now) (a .id) (a .branch) _ (a .levels) (c .before .before .before .check-branch .ensures) _ (c .before .verdict .given .1))
     (λ c. search needs)
     (λ c κs.
     let a = c .before .before .before .before .before .args in
     (c .before .before .before .before .before .pre .1, branch-numbered (a .block .now) (a .levels) (a .branch) (sym (c .before .before .before .check-branch .ensures) ∙ c .before .enum-told .given .1)))
     (λ c.
     let a = c .before .before .before .before .before .before .args in
-    c .find-in-leaf .ensures ∙ under-leaf (a .block .now) (a .id) (a .branch) _ (a .levels) (c .before .if1 .taken) (c .before .before .before .before .check-branch .ensures) (c .before .before .enum-told .given .1))
+    c .find-in-leaf .ensures ∙ under-leaf (a .block .now) (a .id) (a .branch) _ (a .levels) (c .before .before .before .before .check-branch .ensures) (c .before .if1 .taken) (c .before .before .enum-told .given .1))
     (λ c κs.
     let a = c .before .before .before .before .before .args in
     (c .before .before .before .before .before .pre .1, branch-numbered (a .block .now) (a .levels) (a .branch) (sym (c .before .before .before .check-branch .ensures) ∙ c .before .enum-told .given .1)))
@@ -59,9 +59,9 @@ pub +find-under-spec : {M : Type 1} → statement M
     (λ c. search needs)
     (λ c.
     let a = c .before .before .before .before .before .before .before .before .args in
-    under-absent (a .block .now) (a .id) (a .branch) _ (a .levels) (c .before .before .before .if1 .left) (c .before .before .before .before .before .before .check-branch .ensures) (c .before .before .before .before .enum-told .given .1) (sym (ap chosenIn (c .enum-told2 .given .1)) ∙ c .before .before .choose-child .ensures))
+    under-absent (a .block .now) (a .id) (a .branch) _ (a .levels) (c .before .before .before .before .before .before .check-branch .ensures) (c .before .before .before .if1 .left) (c .before .before .before .before .enum-told .given .1) (sym (ap chosenIn (c .enum-told2 .given .1)) ∙ c .before .before .choose-child .ensures (a .levels - 1)))
     (λ c. omega arith)
     (λ c κs. (omega (arith, c .before .before .before .before .before .before .before .before .before .pre .0), c .before .before .before .before .before .before .before .before .before .pre .1))
     (λ c.
     let a = c .before .before .before .before .before .before .before .before .before .before .args in
-    c .find-under .ensures ∙ under-on (a .block .now) (a .id) (a .branch) _ (a .levels) (c .before .before .chosen .given .0 .0) (c .before .before .before .before .before .if1 .left) (c .before .before .before .before .before .before .before .before .check-branch .ensures) (c .before .before .before .before .before .before .enum-told .given .1) (sym (ap chosenIn (c .before .before .chosen .given .1)) ∙ c .before .before .before .before .choose-child .ensures))
+    c .find-under .ensures ∙ under-on (a .block .now) (a .id) (a .branch) _ (a .levels) (c .before .before .before .before .before .before .before .before .check-branch .ensures) (c .before .before .before .before .before .if1 .left) (c .before .before .before .before .before .before .enum-told .given .1) (c .before .before .chosen .given .0 .0) (sym (ap chosenIn (c .before .before .chosen .given .1)) ∙ c .before .before .before .before .choose-child .ensures (a .levels - 1)))

@@ -1,48 +1,38 @@
 use mathlib.Core.Path.{_≡_, sym, ap, _∙_}
-use Prim.Native.Nat.{ℕ}
-use mathlib.Core.List.{List}
-use mathlib.Core.Option.{Option, some}
-use Rattle.keys.specs.declared.End.{End}
+use mathlib.Core.List.{[], _∷_}
 use Rattle.keys.specs.declared.Seat.the-variants.{At}
 use Rattle.keys.specs.Records.{keysOf}
-use Rattle.keys.specs.Search.{lastAtMost, choice}
+use Rattle.keys.specs.Search.{lastAtMost}
 use Rattle.property.specs.declared.Branch.{Branch}
-use Rattle.property.specs.Records.{indexShape, recordCount, recordsOf, childrenOf, children}
-use Rattle.property.specs.Descent.{low}
+use Rattle.property.specs.Records.{indexShape, recordCount}
 use Rattle.property.proofs.RecordLaws.{child-inside, child-none, child-chosen}
 use borrow.Author.Needs.{needs}
 use Rattle.property.proofs.choose_child.Statement.{statement}
 use Rattle.property.proofs.choose_child.Tie as tie
-
--- what is chosen, of the records that were read: they are the item
-abbrev chosen : ℕ → End → List ℕ → Option Branch
-chosen id to records = choice low id (childrenOf to (recordsOf indexShape records))
 
 sought : (c : tie.After-known-told) → At (c .before .seat .given .0 .0) ≡ lastAtMost (c .before .before .before .before .before .before .before .args .id) (keysOf indexShape (recordCount indexShape (c .before .before .before .before .part-of .result .now)) (c .before .before .before .before .part-of .result .now))
 unfolding recordCount indexShape
 sought c = sym (c .before .seat .given .1) ∙ c .before .before .before .last-at-most .ensures
 
 returns : tie.Need-returns
-unfolding recordCount indexShape children
+unfolding recordCount indexShape
 returns c =
     let a = c .before .before .before .before .before .before .args in
     let part = c .before .before .before .part-of in
-    child-none (a .branch .range .to) (part .result .now) (a .id) (sym (c .enum-told .given .1) ∙ c .before .before .last-at-most .ensures)
-    ∙ ap (chosen (a .id) (a .branch .range .to)) (part .ensures)
+    child-none (a .block .now) (part .result .now) (a .branch) (part .ensures) (a .id) (sym (c .enum-told .given .1) ∙ c .before .before .last-at-most .ensures)
 
 child-at-requires : tie.Need-child-at-requires
 child-at-requires c κs =
     let a = c .before .before .before .before .before .before .before .args in
-    child-inside (a .branch .range .to) (c .before .before .before .before .part-of .result .now) (a .id) (c .before .seat .given .0 .0) (sought c)
+    let part = c .before .before .before .before .part-of in
+    child-inside (a .block .now) (part .result .now) (a .branch) (part .ensures) (a .id) (c .before .seat .given .0 .0) (sought c)
 
 returns-2 : tie.Need-returns-2
-unfolding children
-returns-2 c =
+returns-2 c levels =
     let a = c .before .before .before .before .before .before .before .before .args in
     let part = c .before .before .before .before .before .part-of in
-    ap some (c .child-at .ensures)
-    ∙ child-chosen (a .branch .range .to) (part .result .now) (a .id) (c .before .before .seat .given .0 .0) (sought (c .before))
-    ∙ ap (chosen (a .id) (a .branch .range .to)) (part .ensures)
+    ap (λ (b : Branch). b ∷ []) (c .child-at .ensures)
+    ∙ child-chosen (a .block .now) (part .result .now) (a .branch) (part .ensures) (a .id) (c .before .before .seat .given .0 .0) (sought (c .before)) levels
 
 pub choose-child-spec : {M : Type 1} → statement M
 choose-child-spec =

@@ -1,7 +1,6 @@
-use mathlib.Core.Path.{sym, ap, _∙_}
-use Rattle.keys.specs.declared.End.the-variants.{Before}
-use Rattle.property.specs.Records.{recordCount, indexShape}
-use Rattle.property.proofs.RecordLaws.{end-none, end-next}
+use Rattle.property.specs.Records.{recordCount, indexShape, idOf}
+use Rattle.search.proofs.Records.{end-none, end-next}
+use Rattle.property.proofs.RecordLaws.{index-keyed}
 use borrow.Author.Needs.{needs}
 use Rattle.property.proofs.end_at.Statement.{statement}
 use Rattle.property.proofs.end_at.Tie as tie
@@ -10,13 +9,13 @@ returns : tie.Need-returns
 unfolding recordCount indexShape
 returns c =
     let a = c .before .before .args in
-    sym (end-none (a .to) (a .records .now) (a .i) (c .if1 .taken))
+    end-none idOf indexShape index-keyed _ (a .records .now) (a .to) (a .i) (c .if1 .taken)
 
 returns-2 : tie.Need-returns-2
 unfolding recordCount indexShape
 returns-2 c =
     let a = c .before .before .before .args in
-    ap Before (c .key-at .ensures) ∙ sym (end-next (a .to) (a .records .now) (a .i) (c .before .if1 .left))
+    end-next idOf indexShape index-keyed _ (a .records .now) (a .to) (a .i) _ (c .before .if1 .left) (c .key-at .ensures)
 
 pub end-at-spec : {M : Type 1} → statement M
 end-at-spec = tie.close (tie.spec returns (λ c κs. search needs) returns-2)

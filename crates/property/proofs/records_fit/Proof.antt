@@ -3,7 +3,8 @@ use mathlib.Core.Path.{ap, _∙_}
 use mathlib.Core.Bool.{Bool, _&&_}
 use lib.Dec.{leb, eqb}
 use lib.ListN.{length}
-use Rattle.property.specs.Records.{climbing, recordsFit, recordCount}
+use Rattle.property.specs.Records.{recordsFit, recordCount}
+use Rattle.keys.specs.Range.{climbing}
 use Rattle.property.proofs.RecordLaws.{records-hold}
 use borrow.Author.Needs.{needs}
 use Rattle.property.proofs.records_fit.Statement.{statement}

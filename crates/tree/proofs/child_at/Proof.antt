@@ -1,8 +1,8 @@
-use mathlib.Core.Path.{_≡_, refl, sym, ap, ap₂, _∙_}
+use mathlib.Core.Path.{_∙_}
 use native.Mathlib.Omega.{arith}
 use Rattle.page.proofs.PageLaws.{page-part, page-length}
 use Rattle.tree.proofs.Walk.{accepted-inside, accepted-counts}
-use Rattle.tree.specs.Answers.{childrenFrom}
+use Rattle.tree.specs.Answers.{kidsFrom}
 use borrow.Author.Needs.{needs}
 use Rattle.tree.proofs.child_at.Statement.{statement}
 use Rattle.tree.proofs.child_at.Tie as tie
@@ -15,7 +15,7 @@ next-link-requires c κs =
     (c .before .before .pre .0, page-length (a .image .now) (a .p .offset) (accepted-inside (a .l) (a .image .now) (a .p) ok), accepted-counts (a .l) (a .image .now) (a .p) ok)
 
 returns : tie.Need-returns
-unfolding childrenFrom
+unfolding kidsFrom
 returns c = c .next-link .ensures ∙ rw page-part
 
 pub child-at-spec : {M : Type 1} → statement M

@@ -1,8 +1,9 @@
-use mathlib.Core.Path.{_≡_, refl, sym, ap, ap₂, _∙_}
+use mathlib.Core.Path.{ap, _∙_}
 use native.Mathlib.Omega.{arith}
 use Rattle.page.proofs.PageLaws.{page-part, page-length}
 use Rattle.tree.proofs.Walk.{accepted-inside, accepted-counts}
-use Rattle.tree.specs.Tree.{children}
+use Rattle.tree.specs.Answers.{nextOf}
+use Rattle.tree.proofs.Children.{chosen-is}
 use borrow.Author.Needs.{needs}
 use Rattle.tree.proofs.child_for.Statement.{statement}
 use Rattle.tree.proofs.child_for.Tie as tie
@@ -15,8 +16,9 @@ choose-requires c κs =
     (c .before .before .pre .0, page-length (a .image .now) (a .p .offset) (accepted-inside (a .l) (a .image .now) (a .p) ok), accepted-counts (a .l) (a .image .now) (a .p) ok)
 
 returns : tie.Need-returns
-unfolding children
-returns c = c .choose .ensures ∙ rw page-part
+returns c =
+    let a = c .before .before .before .args in
+    c .choose .ensures ∙ rw page-part (ap nextOf (chosen-is (a .l) (a .image .now) (a .level) (a .p) (a .key)))
 
 pub child-for-spec : {M : Type 1} → statement M
 child-for-spec =

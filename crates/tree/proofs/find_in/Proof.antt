@@ -2,10 +2,8 @@ use mathlib.Core.Path.{refl, sym, ap, _∙_}
 use native.Mathlib.Omega.{arith}
 use Rattle.header.proofs.HeaderLaws.{header-length}
 use Rattle.tree.proofs.Walk.{accepted-offset}
-use Rattle.tree.proofs.Ways.{root-on}
-use Rattle.tree.proofs.Looks.{lookup-way}
+use Rattle.tree.proofs.Steps.{root-on}
 use Rattle.keys.specs.declared.Sought.the-variants.{Equal}
-use Rattle.tree.specs.Lookup.{lookup}
 use Rattle.tree.specs.Answers.{shown}
 use borrow.Author.Needs.{needs}
 use Rattle.tree.proofs.find_in.Statement.{statement}
@@ -17,12 +15,11 @@ look-requires c κs =
     (c .before .before .before .before .pre .0, (λ ok. sym (c .before .stated-level .ensures .0 (accepted-offset (a .l) (a .image .now) (c .before .before .root-link .result) ok))), omega arith)
 
 returns : tie.Need-returns
-unfolding lookup
 returns c =
     let a = c .before .before .before .before .before .args in
     c .look .ensures
     ∙ ap (shown (a .l))
-    (root-on (a .l) (a .image .now) Equal _ (lookup-way (a .l) (a .image .now)) (a .key) _ (sym (c .before .before .before .before .before .pre .1)) _ _ _ refl (c .before .before .before .root-link .ensures) (c .before .compared .ensures) (c .before .before .stated-level .ensures .0))
+    (root-on (a .l) (a .image .now) Equal (a .key) _ (sym (c .before .before .before .before .before .pre .1)) _ _ _ refl (c .before .before .before .root-link .ensures) (c .before .compared .ensures) (c .before .before .stated-level .ensures .0))
 
 pub find-in-spec : {M : Type 1} → statement M
 find-in-spec =

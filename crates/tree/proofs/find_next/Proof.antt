@@ -2,20 +2,18 @@ use mathlib.Core.Path.{sym, ap, _∙_}
 use native.Mathlib.Omega.{arith}
 use Rattle.header.proofs.HeaderLaws.{header-length}
 use Rattle.tree.proofs.Walk.{accepted-offset}
-use Rattle.tree.proofs.Ways.{root-refused, root-on}
-use Rattle.tree.proofs.Seeks.{listing-way}
+use Rattle.tree.proofs.Steps.{root-refused, root-on}
 use Rattle.keys.specs.declared.Sought.the-variants.{AtLeast}
-use Rattle.tree.specs.Listing.{next}
 use Rattle.tree.specs.Answers.{shown}
 use borrow.Author.Needs.{needs}
 use Rattle.tree.proofs.find_next.Statement.{statement}
 use Rattle.tree.proofs.find_next.Tie as tie
 
 returns : tie.Need-returns
-unfolding shown next
+unfolding shown
 returns c =
     let a = c .before .before .before .before .before .args in
-    ap (shown (a .l)) (root-refused (a .l) (a .image .now) AtLeast _ (listing-way (a .l) (a .image .now)) (a .from) _ (c .before .before .before .check-header .ensures) _ (c .before .verdict .given .1))
+    ap (shown (a .l)) (root-refused (a .l) (a .image .now) AtLeast (a .from) _ (c .before .before .before .check-header .ensures) _ (c .before .verdict .given .1))
 
 seek-requires : tie.Need-seek-requires
 seek-requires c κs =
@@ -23,12 +21,11 @@ seek-requires c κs =
     (c .before .before .before .before .before .before .before .pre, (λ ok. sym (c .before .stated-level .ensures .0 (accepted-offset (a .l) (a .image .now) (c .before .before .root-link .result) ok))), c .before .stated-level .ensures .1, omega (arith, c .before .stated-level .ensures .1))
 
 returns-2 : tie.Need-returns-2
-unfolding next
 returns-2 c =
     let a = c .before .before .before .before .before .before .before .before .args in
     c .seek .ensures
     ∙ ap (shown (a .l))
-    (root-on (a .l) (a .image .now) AtLeast _ (listing-way (a .l) (a .image .now)) (a .from) _ (c .before .before .before .before .before .before .check-header .ensures) _ _ _ (c .before .before .before .before .enum-told .given .1) (c .before .before .before .root-link .ensures) (c .before .compared .ensures) (c .before .before .stated-level .ensures .0))
+    (root-on (a .l) (a .image .now) AtLeast (a .from) _ (c .before .before .before .before .before .before .check-header .ensures) _ _ _ (c .before .before .before .before .enum-told .given .1) (c .before .before .before .root-link .ensures) (c .before .compared .ensures) (c .before .before .stated-level .ensures .0))
 
 pub find-next-spec : {M : Type 1} → statement M
 find-next-spec =

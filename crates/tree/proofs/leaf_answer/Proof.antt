@@ -1,8 +1,8 @@
-use Rattle.tree.proofs.Looks.{leaf-none, leaf-some}
+use Rattle.tree.proofs.Steps.{leaf-none, leaf-some}
 use Prim.Native.Nat.{ℕ, _+_, _*_, _-_}
 use mathlib.Core.Path.{_≡_, refl, sym, ap, ap₂, _∙_}
 use native.Mathlib.Omega.{arith}
-use Rattle.tree.proofs.Children.{found-none, found-inside, found-some, leaf-record, leaf-inside}
+use Rattle.tree.proofs.Children.{seen-none, seen-inside, seen-some, leaf-record, leaf-inside}
 use Rattle.page.specs.Page.{countOf, levelOf, entries}
 use Rattle.page.specs.Layout.{shape}
 use Rattle.page.proofs.PageLaws.{entries-held}
@@ -22,7 +22,7 @@ returns : tie.Need-returns
 unfolding countOf
 returns c =
     let a = c .before .before .before .before .before .before .args in
-    leaf-none (a .l) _ (a .pages) (found-none (a .l) (a .page .now) (a .sought) (a .key) (rw (c .before .before .before .shape-of .ensures ∙ ap (shape (a .l)) (sym (c .before .before .before .before .before .before .pre .3)), c .before .before .before .before .count-at .ensures .0) at (sym (c .before .before .first-that .ensures) ∙ c .enum-told .given .1)))
+    leaf-none (a .l) _ (a .pages) (seen-none (a .l) (a .page .now) (a .sought) (a .key) (rw (c .before .before .before .shape-of .ensures ∙ ap (shape (a .l)) (sym (c .before .before .before .before .before .before .pre .3)), c .before .before .before .before .count-at .ensures .0) at (sym (c .before .before .first-that .ensures) ∙ c .enum-told .given .1)))
 
 mul-fields-at : tie.Need-mul-fields-at
 unfolding countOf
@@ -31,7 +31,7 @@ mul-fields-at c =
     omega (
       arith,
       leaf-inside (a .l) (a .p) (a .page .now) (c .before .before .before .before .before .before .before .before .pre .0) (c .before .before .before .before .before .before .before .before .pre .1) (c .before .before .before .before .before .before .before .before .pre .2) (c .before .before .before .before .before .before .before .before .pre .3) (c .before .before .seat .given .0 .0)
-          (found-inside (a .l) (a .page .now) (a .sought) (a .key) (c .before .before .seat .given .0 .0) (rw (c .before .before .before .before .before .shape-of .ensures ∙ ap (shape (a .l)) (sym (c .before .before .before .before .before .before .before .before .pre .3)), c .before .before .before .before .before .before .count-at .ensures .0) at (sym (c .before .before .before .before .first-that .ensures) ∙ c .before .before .seat .given .1))),
+          (seen-inside (a .l) (a .page .now) (a .sought) (a .key) (c .before .before .seat .given .0 .0) (rw (c .before .before .before .before .before .shape-of .ensures ∙ ap (shape (a .l)) (sym (c .before .before .before .before .before .before .before .before .pre .3)), c .before .before .before .before .before .before .count-at .ensures .0) at (sym (c .before .before .before .before .first-that .ensures) ∙ c .before .before .seat .given .1))),
     )
 
 fields-at-requires : tie.Need-fields-at-requires
@@ -42,7 +42,7 @@ fields-at-requires c κs =
       omega (
         arith,
         leaf-inside (a .l) (a .p) (a .page .now) (c .before .before .before .before .before .before .before .before .pre .0) (c .before .before .before .before .before .before .before .before .pre .1) (c .before .before .before .before .before .before .before .before .pre .2) (c .before .before .before .before .before .before .before .before .pre .3) (c .before .before .seat .given .0 .0)
-            (found-inside (a .l) (a .page .now) (a .sought) (a .key) (c .before .before .seat .given .0 .0) (rw (c .before .before .before .before .before .shape-of .ensures ∙ ap (shape (a .l)) (sym (c .before .before .before .before .before .before .before .before .pre .3)), c .before .before .before .before .before .before .count-at .ensures .0) at (sym (c .before .before .before .before .first-that .ensures) ∙ c .before .before .seat .given .1))),
+            (seen-inside (a .l) (a .page .now) (a .sought) (a .key) (c .before .before .seat .given .0 .0) (rw (c .before .before .before .before .before .shape-of .ensures ∙ ap (shape (a .l)) (sym (c .before .before .before .before .before .before .before .before .pre .3)), c .before .before .before .before .before .before .count-at .ensures .0) at (sym (c .before .before .before .before .first-that .ensures) ∙ c .before .before .seat .given .1))),
       ),
     )
 
@@ -51,7 +51,7 @@ unfolding countOf
 returns-2 c =
     let a = c .before .before .before .before .before .before .before .before .before .args in
     rw (c .fields-at .ensures, ← (leaf-record (a .l) (a .p) (a .page .now) (c .before .before .before .before .before .before .before .before .before .pre .0) (c .before .before .before .before .before .before .before .before .before .pre .1) (c .before .before .before .before .before .before .before .before .before .pre .2) (c .before .before .before .before .before .before .before .before .before .pre .3) (c .before .before .before .seat .given .0 .0)))
-    (leaf-some (a .l) _ (a .pages) _ (found-some (a .l) (a .page .now) (a .sought) (a .key) (c .before .before .before .seat .given .0 .0) (rw (c .before .before .before .before .before .before .shape-of .ensures ∙ ap (shape (a .l)) (sym (c .before .before .before .before .before .before .before .before .before .pre .3)), c .before .before .before .before .before .before .before .count-at .ensures .0) at (sym (c .before .before .before .before .before .first-that .ensures) ∙ c .before .before .before .seat .given .1))))
+    (leaf-some (a .l) _ (a .pages) _ (seen-some (a .l) (a .page .now) (a .sought) (a .key) (c .before .before .before .seat .given .0 .0) (rw (c .before .before .before .before .before .before .shape-of .ensures ∙ ap (shape (a .l)) (sym (c .before .before .before .before .before .before .before .before .before .pre .3)), c .before .before .before .before .before .before .before .count-at .ensures .0) at (sym (c .before .before .before .before .before .first-that .ensures) ∙ c .before .before .before .seat .given .1))))
 
 pub leaf-answer-spec : {M : Type 1} → statement M
 leaf-answer-spec =

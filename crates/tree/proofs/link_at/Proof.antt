@@ -1,10 +1,8 @@
-use Prim.Native.Nat.{ℕ, _+_, _*_, _-_}
-use mathlib.Core.Path.{_≡_, refl, sym, ap, _∙_}
+use Prim.Native.Nat.{_+_}
 use native.Mathlib.Omega.{arith}
 use lib.ListN.{length}
 use Rattle.tree.proofs.Children.{link-is}
-use Rattle.keys.proofs.RecordLaws.{recordsFrom, holds-fewer, record-inside}
-use Rattle.tree.specs.Tree.{endOf}
+use Rattle.keys.proofs.RecordLaws.{holds-fewer, record-inside}
 use borrow.Author.Needs.{needs}
 use Rattle.tree.proofs.link_at.Statement.{statement}
 use Rattle.tree.proofs.link_at.Tie as tie
@@ -47,10 +45,8 @@ key-at-requires c κs =
 returns : tie.Need-returns
 returns c =
     let a = c .before .before .before .before .before .before .args in
-    rw (c .end-at .ensures)
-    (link-is (a .l) (a .shape) (a .page .now) (a .i) (a .level) (c .before .before .before .field-of .result) (c .before .before .field-of2 .result) (c .before .key-at .result)
-    (endOf (a .l) (a .to) (recordsFrom (a .shape) (a .count) (a .page .now) (a .i + 1)))
-    (c .before .before .before .before .before .before .pre .1) (c .before .before .before .before .before .before .pre .2) (c .before .before .before .field-of .ensures .0) (c .before .before .field-of2 .ensures .0) (c .before .key-at .ensures))
+    link-is (a .l) (a .shape) (a .count) (a .page .now) (a .to) (a .i) (a .level) _ _ _ _ (c .before .before .before .before .before .before .pre .2)
+    (c .before .before .before .field-of .ensures .0) (c .before .before .field-of2 .ensures .0) (c .before .key-at .ensures) (c .end-at .ensures)
 
 pub link-at-spec : {M : Type 1} → statement M
 link-at-spec =

@@ -1,8 +1,8 @@
 use mathlib.Core.Path.{ap, _∙_}
 use Rattle.page.specs.declared.Layout.{Layout}
 use Rattle.page.proofs.Fairs.{fair-bbt}
-use Rattle.tree.specs.Answers.{shown, asBlock}
-use Rattle.tree.specs.Listing.{next, nextBlockOf}
+use Rattle.tree.specs.Answers.{shown, asBlock, nextBlockOf}
+use Rattle.tree.specs.Lookup.{next}
 use borrow.Author.Needs.{needs}
 use Rattle.tree.proofs.next_block.Statement.{statement}
 use Rattle.tree.proofs.next_block.Tie as tie

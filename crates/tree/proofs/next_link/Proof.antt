@@ -12,7 +12,7 @@ returns : tie.Need-returns
 unfolding countOf
 returns c =
     let a = c .before .before .before .args in
-    next-none (a .l) (shape (a .l) (levelOf (a .l) (a .page .now))) (countOf (a .l) (a .page .now)) (a .page .now) (a .level) (a .p .range .to) (a .i) (omega (arith, c .before .count-at .ensures .0))
+    next-none (a .l) (a .page .now) (a .level) (a .p .range .to) (a .i) (omega (arith, c .before .count-at .ensures .0))
 
 link-at-requires : tie.Need-link-at-requires
 unfolding countOf levelOf
@@ -25,7 +25,7 @@ unfolding countOf levelOf
 returns-2 c =
     let a = c .before .before .before .before .before .before .before .args in
     rw (c .link-at .ensures, c .before .before .shape-of .ensures, c .before .before .before .count-at2 .ensures .0, c .before .before .before .before .before .count-at .ensures .0)
-    (next-some (a .l) (shape (a .l) (levelOf (a .l) (a .page .now))) (countOf (a .l) (a .page .now)) (a .page .now) (a .level) (a .p .range .to) (a .i) (omega (arith, c .before .before .before .before .before .count-at .ensures .0)))
+    (next-some (a .l) (a .page .now) (a .level) (a .p .range .to) (a .i) (omega (arith, c .before .before .before .before .before .count-at .ensures .0)))
 
 pub next-link-spec : {M : Type 1} → statement M
 next-link-spec =

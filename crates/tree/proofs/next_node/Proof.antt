@@ -1,8 +1,8 @@
 use mathlib.Core.Path.{ap, _∙_}
 use Rattle.page.specs.declared.Layout.{Layout}
 use Rattle.page.proofs.Fairs.{fair-nbt}
-use Rattle.tree.specs.Answers.{shown, asNode}
-use Rattle.tree.specs.Listing.{next, nextNodeOf}
+use Rattle.tree.specs.Answers.{shown, asNode, nextNodeOf}
+use Rattle.tree.specs.Lookup.{next}
 use borrow.Author.Needs.{needs}
 use Rattle.tree.proofs.next_node.Statement.{statement}
 use Rattle.tree.proofs.next_node.Tie as tie
