@@ -135,7 +135,7 @@ module _ (block : List ℕ) (h : Heap block) where
     unfolding itemStart
     starts-behind = omega (arith, h .first, first-below)
 
-    item-lies : Lies block item
+    pub item-lies : Lies block item
     unfolding itemLength itemPart
     item-lies =
         record {

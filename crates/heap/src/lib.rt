@@ -176,6 +176,15 @@ fn bounds_of(block: &[u8], item: u32) -> Bounds
     Bounds { start, end }
 }
 
+// Where an item of this heap starts in the block.
+pub fn start_of(block: &[u8], item: u32) -> usize
+    requires { ⌜ Heap (now block) × Numbered (now block) item ⌝ }
+    ensures { λ r. ⌜ r ≡ itemStart (now (block .entry)) item ⌝ }
+{
+    let bounds = bounds_of(block, item);
+    bounds.start
+}
+
 // The item, between two offsets of the map, where the test has accepted it.
 pub fn part_of<'a>(block: &'a [u8], item: u32) -> &'a [u8]
     requires { ⌜ Heap (now block) × Numbered (now block) item ⌝ }

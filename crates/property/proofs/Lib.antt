@@ -1,5 +1,3 @@
-pub mod RootLaws
-pub mod RecordLaws
-pub mod StepLaws
-pub mod SoundLaws
+pub mod ContextLaws
+pub mod SaidLaws
 pub mod ScanLaws

@@ -1,6 +1,3 @@
-pub mod Root
-pub mod Records
+pub mod Context
 pub mod Descent
-pub mod Sound
 pub mod Scan
-pub mod Steps

@@ -1,0 +1,6 @@
+pub mod RootLaws
+pub mod ShownLaws
+pub mod RecordLaws
+pub mod StepLaws
+pub mod SoundLaws
+pub mod ScanLaws

@@ -1,0 +1,222 @@
+// A search tree whose branches are items of a heap. What a tree is used for says the sizes of its records; the rest is here, once.
+use keys::End;
+use keys::Range;
+use keys::Seat;
+use keys::Shape;
+use keys::Sought;
+use refusal::Fault;
+use refusal::Refusal;
+use refusal::Verdict;
+ghost use mathlib.Core.Path.{_≡_};
+ghost use Prim.Native.Nat.{_+_, _≤_, _<_};
+ghost use Rattle.refusal.specs.Order.{inOrder};
+ghost use Rattle.keys.specs.Records.{keyOf};
+ghost use Rattle.keys.specs.Search.{withKey};
+ghost use Rattle.keys.proofs.RecordLaws.{recordsFrom};
+ghost use Rattle.search.specs.Tree.{test, endOf};
+ghost use Rattle.search.specs.Answer.{answer};
+ghost use Rattle.search.specs.Descent.{descend};
+ghost use Rattle.search.proofs.Records.{childAt};
+ghost use Rattle.heap.specs.Shape.{Heap};
+ghost use Rattle.heap.specs.Items.{Numbered, itemPart};
+ghost use Rattle.heaptree.specs.Value.{Fair, leafShape, shapeAt, keyIn};
+ghost use Rattle.heaptree.specs.Root.{rootFits, rootRules, Rooted};
+ghost use Rattle.heaptree.specs.Branches.{recordCount, recordsFit, recordsOf, childOf, treeOf};
+ghost use Rattle.heaptree.specs.Lookup.{fromRoot, Shows};
+ghost use Rattle.heaptree.specs.Steps.{ChosenIs};
+
+// What a tree on a heap is told by: how many bytes its keys and its entries have, and the fault of a wrong shape.
+pub struct Tree {
+    pub key: usize,
+    pub entry: usize,
+    pub fault: Fault,
+}
+
+// An item of the tree as it is referred to, and the keys that may stand under it.
+pub struct Branch {
+    pub item: u32,
+    pub range: Range,
+}
+
+pub enum Chosen {
+    Child(Branch),
+    Nobody,
+}
+
+// Where in the block the leaf record with the key starts.
+pub enum Found {
+    At(usize),
+    Absent,
+    Refused(Refusal),
+}
+
+fn root_fits(tree: Tree, root: &[u8]) -> bool
+    ensures { λ r. ⌜ r ≡ rootFits tree (now (root .entry)) ⌝ }
+{
+    if root.len() != 8 {
+        return false;
+    }
+    let key = tree.key;
+    let entry = tree.entry;
+    (le::byte_at(root, 0) == 0xB5)
+        & (le::byte_at(root, 1) as usize == key)
+        & (le::byte_at(root, 2) as usize == entry)
+        & (le::byte_at(root, 3) <= 3)
+}
+
+// The record from which a tree starts: 19 for the number of its item, then the tree's fault.
+pub fn check_root(block: &[u8], tree: Tree, root: u32) -> Verdict
+    requires { ⌜ Heap (now block) ⌝ }
+    ensures { λ r. ⌜ r ≡ inOrder (rootRules tree (now (block .entry)) root) ⌝ }
+{
+    if !heap::number_fits(block, root) {
+        return refusal::refused_at(Fault::HeapItem, 0);
+    }
+    let fault = tree.fault;
+    if !root_fits(tree, heap::part_of(block, root)) {
+        return refusal::refused_at(fault, 0);
+    }
+    Verdict::Accepted
+}
+
+fn shape_at(tree: Tree, levels: usize) -> Shape
+    requires { ⌜ Fair tree ⌝ }
+    ensures { λ r. ⌜ r ≡ shapeAt tree levels ⌝ }
+{
+    if levels == 0 {
+        return Shape {
+            size: tree.key + tree.entry,
+            width: tree.key,
+        };
+    }
+    Shape {
+        size: tree.key + 4,
+        width: tree.key,
+    }
+}
+
+// Whether an item holds records of this shape, their keys ascending in the range.
+fn records_fit(bytes: &[u8], shape: Shape, range: Range) -> bool
+    requires { ⌜ (0 < shape .size) × (shape .width ≤ shape .size) × (shape .width ≤ 8) ⌝ }
+    ensures { λ r. ⌜ r ≡ recordsFit shape range (now (bytes .entry)) ⌝ }
+{
+    let size = shape.size;
+    let order = keys::check_keys(bytes, shape, bytes.len() / size, range);
+    (1 <= bytes.len()) & (bytes.len() % size == 0) & keys::is_climbing(order)
+}
+
+// An item of the tree: 19 for its number, then the tree's fault for its shape.
+fn check_branch(block: &[u8], tree: Tree, levels: usize, branch: Branch) -> Verdict
+    requires { ⌜ Heap (now block) × Fair tree ⌝ }
+    ensures { λ r. ⌜ r ≡ test (treeOf tree (now (block .entry))) levels branch ⌝ }
+{
+    let item = branch.item;
+    if !heap::number_fits(block, item) {
+        return refusal::refused_at(Fault::HeapItem, 0);
+    }
+    let fault = tree.fault;
+    let range = branch.range;
+    if !records_fit(heap::part_of(block, item), shape_at(tree, levels), range) {
+        return refusal::refused_at(fault, 0);
+    }
+    Verdict::Accepted
+}
+
+// Where the leaf record with the key stands, in an accepted leaf item.
+fn find_in_leaf(block: &[u8], tree: Tree, key: u64, item: u32) -> Found
+    requires { ⌜ Heap (now block) × Numbered (now block) item × Fair tree ⌝ }
+    ensures { λ r. ⌜ Shows tree (now (block .entry)) r (answer (withKey (keyIn tree) key (recordsOf (leafShape tree) (itemPart (now (block .entry)) item))) 1) ⌝ }
+{
+    let records = heap::part_of(block, item);
+    let width = tree.key;
+    let size = width + tree.entry;
+    let shape = Shape { size, width };
+    let seat = keys::first_that(records, shape, records.len() / size, Sought::Equal, key);
+    let Seat::At(i) = seat else {
+        return Found::Absent;
+    };
+    Found::At(heap::start_of(block, item) + i * size)
+}
+
+// Where the range of the child before the i-th index record ends.
+fn end_at(records: &[u8], shape: Shape, i: usize, to: End) -> End
+    requires { ⌜ (0 < shape .size) × (shape .width ≤ shape .size) × (shape .width ≤ 8) ⌝ }
+    ensures { λ r. ⌜ r ≡ endOf (keyOf shape) to (recordsFrom shape (recordCount shape (now (records .entry))) (now (records .entry)) i) ⌝ }
+{
+    let size = shape.size;
+    if records.len() / size <= i {
+        return to;
+    }
+    End::Before(keys::key_at(records, shape, i))
+}
+
+// The child of the i-th index record.
+fn child_at(records: &[u8], shape: Shape, i: usize, to: End) -> Branch
+    requires { ⌜ (shape .width + 4 ≤ shape .size) × (shape .width ≤ 8) × (i < recordCount shape (now records)) ⌝ }
+    ensures { λ r. ⌜ r ≡ childAt (keyOf shape) (childOf (shape .width)) to shape (recordCount shape (now (records .entry))) (now (records .entry)) i ⌝ }
+{
+    let size = shape.size;
+    let width = shape.width;
+    let item = le::field4(records, i * size + width);
+    let from = keys::key_at(records, shape, i);
+    let end = end_at(records, shape, i + 1, to);
+    let range = Range { from, to: end };
+    Branch { item, range }
+}
+
+// The child of an accepted index item under which the key must stand.
+fn choose_child(block: &[u8], tree: Tree, key: u64, branch: Branch) -> Chosen
+    requires { ⌜ Heap (now block) × Numbered (now block) (branch .item) × Fair tree ⌝ }
+    ensures { λ r. ⌜ ChosenIs tree (now (block .entry)) key branch r ⌝ }
+{
+    let item = branch.item;
+    let range = branch.range;
+    let to = range.to;
+    let records = heap::part_of(block, item);
+    let width = tree.key;
+    let size = width + 4;
+    let shape = Shape { size, width };
+    let seat = keys::last_at_most(records, shape, records.len() / size, key);
+    let Seat::At(i) = seat else {
+        return Chosen::Nobody;
+    };
+    Chosen::Child(child_at(records, shape, i, to))
+}
+
+// The descent from an item so many index levels above the leaves.
+fn find_under(block: &[u8], tree: Tree, key: u64, levels: usize, branch: Branch) -> Found
+    requires { ⌜ Heap (now block) × Fair tree ⌝ }
+    ensures { λ r. ⌜ Shows tree (now (block .entry)) r (descend (treeOf tree (now (block .entry))) Sought.Equal key levels branch) ⌝ }
+{
+    let verdict = check_branch(block, tree, levels, branch);
+    if let Verdict::Refused(refusal) = verdict {
+        return Found::Refused(refusal);
+    }
+    let item = branch.item;
+    if levels == 0 {
+        return find_in_leaf(block, tree, key, item);
+    }
+    let chosen = choose_child(block, tree, key, branch);
+    let Chosen::Child(child) = chosen else {
+        return Found::Absent;
+    };
+    find_under(block, tree, key, levels - 1, child)
+}
+
+// The leaf record with the key, of the tree that starts from an accepted root record.
+pub fn find_from(block: &[u8], tree: Tree, root: u32, key: u64) -> Found
+    requires { ⌜ Heap (now block) × Fair tree × Rooted tree (now block) root ⌝ }
+    ensures { λ r. ⌜ Shows tree (now (block .entry)) r (fromRoot tree (now (block .entry)) root key) ⌝ }
+{
+    let record = heap::part_of(block, root);
+    let item = le::field4(record, 4);
+    if item == 0 {
+        return Found::Absent;
+    }
+    let levels = le::byte_at(record, 3) as usize;
+    let range = Range {
+        from: 0,
+        to: End::Open,
+    };
+    find_under(block, tree, key, levels, Branch { item, range })
+}
