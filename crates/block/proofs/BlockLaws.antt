@@ -29,7 +29,7 @@ use Rattle.block.specs.declared.Trailer.{Trailer}
 use Rattle.block.specs.declared.Checked.{Checked}
 use Rattle.block.specs.declared.Checked.the-variants as checked
 use Rattle.block.specs.declared.Sized.the-variants as sized
-use Rattle.block.specs.Block.{trailer64, roomFor, room, stored, trailerOf, placeFits, bytesRules, blockRules, blockFits, testedBy, checkedBlock, sizeIn, internal, plain, blockBytes, fronted, fitting, readIn, readOf, filledIn, filledOf}
+use Rattle.block.specs.Block.{trailer64, roomFor, room, stored, trailerOf, placeFits, trailerRules, blockRules, blockFits, testedBy, checkedBlock, sizeIn, internal, plain, blockBytes, fronted, fitting, readIn, readOf, filledIn, filledOf}
 use Rattle.block.specs.Sound.{FairTrailer}
 
 pub fair-trailer : FairTrailer trailer64
@@ -86,10 +86,10 @@ too-large t image b h = rw (lt-leb (b .size) (t .most) h) (sym (and-false (leb 1
 -- the tests of a listed block: 13, then those of its bytes
 pub block-ends : (t : Trailer) (image : List ℕ) (b : Listed) → placeFits t image b ≡ false → Refused (BlockOffset at b .offset) ≡ blockFits t image b
 unfolding blockFits blockRules inOrder
-block-ends t image b e = sym (test-ends Refused _ _ (inOrder (bytesRules t b (trailerOf t image b) (stored t image b))) e)
+block-ends t image b e = sym (test-ends Refused _ _ (inOrder (trailerRules t b (trailerOf t image b) (stored t image b))) e)
 
 pub block-goes : (t : Trailer) (image : List ℕ) (b : Listed) → placeFits t image b ≡ true
-    → inOrder (bytesRules t b (trailerOf t image b) (stored t image b)) ≡ blockFits t image b
+    → inOrder (trailerRules t b (trailerOf t image b) (stored t image b)) ≡ blockFits t image b
 unfolding blockFits blockRules inOrder
 block-goes t image b e = sym (test-goes Refused _ _ _ e)
 

@@ -15,12 +15,12 @@ use Rattle.refusal.proofs.OrderLaws.{accepted-exactly, refused-exactly}
 use Rattle.page.specs.Page.{signature}
 use Rattle.tree.specs.declared.Listed.{Listed}
 use Rattle.block.specs.declared.Trailer.{Trailer}
-use Rattle.block.specs.Block.{trailerOf, placeFits, trailerFits, sumFits, bytesRules, blockRules, blockFits}
+use Rattle.block.specs.Block.{trailerOf, placeFits, trailerFits, sumFits, trailerRules, blockRules, blockFits}
 use Rattle.block.specs.Sound.{BlockSound}
 use Rattle.block.proofs.BlockLaws.{placed-of}
 
 sound-of : (t : Trailer) (image : List ℕ) (b : Listed) → AllHold (blockRules t image b) → BlockSound t image b
-unfolding blockRules bytesRules trailerFits sumFits
+unfolding blockRules trailerRules trailerFits sumFits
 sound-of t image b (both p (both f (both s none))) =
     let placed = placed-of t image b p in
     let g = trailerOf t image b in
@@ -39,7 +39,7 @@ sound-of t image b (both p (both f (both s none))) =
     }
 
 of-sound : (t : Trailer) (image : List ℕ) (b : Listed) → BlockSound t image b → AllHold (blockRules t image b)
-unfolding blockRules bytesRules placeFits trailerFits sumFits
+unfolding blockRules trailerRules placeFits trailerFits sumFits
 of-sound t image b h =
     both
     (both-and _ _

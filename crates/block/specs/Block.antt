@@ -44,8 +44,8 @@ trailerFits t b bytes =
 unfoldable pub sumFits : Trailer → List ℕ → List ℕ → Bool
 sumFits t bytes body = eqb (field bytes (t .checksum) 4) (checksum body)
 
-unfoldable pub bytesRules : Trailer → Listed → List ℕ → List ℕ → List Rule
-bytesRules t b bytes body =
+unfoldable pub trailerRules : Trailer → Listed → List ℕ → List ℕ → List Rule
+trailerRules t b bytes body =
     rule (trailerFits t b bytes) (BlockTrailer at b .offset)
     ∷ rule (sumFits t bytes body) (BlockChecksum at b .offset)
     ∷ []
@@ -65,7 +65,7 @@ module _ (t : Trailer) (image : List ℕ) (b : Listed) where
       && leb (b .offset + roomFor t (b .size)) (fileEnd image)
 
   unfoldable pub blockRules : List Rule
-  blockRules = rule placeFits (BlockOffset at b .offset) ∷ bytesRules t b trailerOf stored
+  blockRules = rule placeFits (BlockOffset at b .offset) ∷ trailerRules t b trailerOf stored
 
   unfoldable pub blockFits : Verdict
   blockFits = inOrder blockRules

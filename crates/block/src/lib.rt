@@ -12,7 +12,7 @@ ghost use Rattle.le.specs.Bytes.{byte};
 ghost use Rattle.refusal.specs.Order.{inOrder};
 ghost use Rattle.header.specs.Header.{headerFits};
 ghost use Rattle.block.specs.Sound.{FairTrailer};
-ghost use Rattle.block.specs.Block.{trailer64, roomFor, room as roomOf, placeFits, trailerFits, sumFits, bytesRules, blockFits, testedBy, checkedBlock, sizeIn, testOf, internal, plain, fronted, blockBytes, readOf, filledOf};
+ghost use Rattle.block.specs.Block.{trailer64, roomFor, room as roomOf, placeFits, trailerFits, sumFits, trailerRules, blockFits, testedBy, checkedBlock, sizeIn, testOf, internal, plain, fronted, blockBytes, readOf, filledOf};
 
 // Where a block's trailer has its fields, and how much data a block has at most.
 pub struct Trailer {
@@ -102,7 +102,7 @@ fn sum_fits(t: Trailer, trailer: &[u8], body: &[u8]) -> bool
 // Tests 14 and 15, of the trailer's bytes and the block's.
 fn test_bytes(t: Trailer, b: Listed, trailer: &[u8], body: &[u8]) -> Verdict
     requires { ⌜ FairTrailer t × (length (now trailer) ≡ t .length) ⌝ }
-    ensures { λ r. ⌜ r ≡ inOrder (bytesRules t b (now (trailer .entry)) (now (body .entry))) ⌝ }
+    ensures { λ r. ⌜ r ≡ inOrder (trailerRules t b (now (trailer .entry)) (now (body .entry))) ⌝ }
 {
     let offset = b.offset;
     if !trailer_fits(t, b, trailer) {

@@ -10,7 +10,7 @@ use lib.ListN.{getD}
 use Rattle.laws.proofs.Table.{agree}
 use Rattle.le.specs.Bytes.{Bytes}
 use Rattle.le.proofs.ByteLaws.{first-below, rest-bytes}
-use Rattle.coding.specs.Table.{table, entry, R, S, I}
+use Rattle.coding.specs.Table.{codingTable, entry, R, S, I}
 use Rattle.coding.specs.Coding.{plus, minus, cyclicByte, cyclic, word, coded, encoded, decoded}
 
 -- g undoes f on bytes
@@ -18,21 +18,21 @@ abbrev pub Undoes : (ℕ → ℕ) → (ℕ → ℕ) → Type 0
 Undoes g f = (b : ℕ) → b < 256 → g (f b) ≡ b
 
 pub I-undoes-R : Undoes I R
-unfolding table entry
+unfolding codingTable entry
 I-undoes-R = agree (λ b. I (R b)) (λ b. b) 256 refl
 
 pub R-undoes-I : Undoes R I
-unfolding table entry
+unfolding codingTable entry
 R-undoes-I = agree (λ b. R (I b)) (λ b. b) 256 refl
 
 pub S-undoes-S : Undoes S S
-unfolding table entry
+unfolding codingTable entry
 S-undoes-S = agree (λ b. S (S b)) (λ b. b) 256 refl
 
 -- each of the 768 entries is a byte
-entry-byte : (k : ℕ) → k < 768 → getD table k 0 % 256 ≡ getD table k 0
-unfolding table
-entry-byte = agree (λ k. getD table k 0 % 256) (λ k. getD table k 0) 768 refl
+entry-byte : (k : ℕ) → k < 768 → getD codingTable k 0 % 256 ≡ getD codingTable k 0
+unfolding codingTable
+entry-byte = agree (λ k. getD codingTable k 0 % 256) (λ k. getD codingTable k 0) 768 refl
 
 pub entry-below : (from b : ℕ) → from ≤ 512 → b < 256 → entry from b < 256
 unfolding entry

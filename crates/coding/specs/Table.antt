@@ -3,8 +3,8 @@ use Prim.Native.Nat.{ℕ, _+_}
 use mathlib.Core.List.{List, [], _∷_}
 use lib.ListN.{getD}
 
-unfoldable pub table : List ℕ
-table =
+unfoldable pub codingTable : List ℕ
+codingTable =
     -- R
     65 ∷ 54 ∷ 19 ∷ 98 ∷ 168 ∷ 33 ∷ 110 ∷ 187 ∷ 244 ∷ 22 ∷ 204 ∷ 4 ∷ 127 ∷ 100 ∷ 232 ∷ 93 ∷
     30 ∷ 242 ∷ 203 ∷ 42 ∷ 116 ∷ 197 ∷ 94 ∷ 53 ∷ 210 ∷ 149 ∷ 71 ∷ 158 ∷ 150 ∷ 45 ∷ 154 ∷ 136 ∷
@@ -60,7 +60,7 @@ table =
 
 -- what stands for the byte b in the table that starts at `from`
 unfoldable pub entry : ℕ → ℕ → ℕ
-entry from b = getD table (from + b) 0
+entry from b = getD codingTable (from + b) 0
 
 abbrev pub R : ℕ → ℕ
 R = entry 0

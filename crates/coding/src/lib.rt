@@ -4,7 +4,7 @@ use refusal::Verdict;
 ghost use mathlib.Core.Path.{_≡_};
 ghost use mathlib.Core.List.{map};
 ghost use Prim.Native.Nat.{_≤_, _<_};
-ghost use Rattle.coding.specs.Table.{table, entry};
+ghost use Rattle.coding.specs.Table.{codingTable, entry};
 ghost use Rattle.coding.specs.Coding.{plus as plusOf, minus as minusOf, cyclicByte, cyclic, word, coded, encoded, decoded, methodFits};
 
 // R, S and I of 003, 5.1, one behind the other.
@@ -787,7 +787,7 @@ fn wide(byte: u8) -> usize
 
 // What stands for the byte in the table that starts at `from`: R at 0, S at 256, I at 512.
 fn entry_of(t: &[u8; 768], from: usize, byte: u8) -> u8
-    requires { ⌜ (now t ≡ table) × (from ≤ 512) ⌝ }
+    requires { ⌜ (now t ≡ codingTable) × (from ≤ 512) ⌝ }
     ensures { λ r. ⌜ r ≡ entry from byte ⌝ }
 {
     t[from + wide(byte)]
@@ -806,7 +806,7 @@ fn minus(a: u8, b: u8) -> u8
 }
 
 fn cyclic_byte(t: &[u8; 768], w: u16, byte: u8) -> u8
-    requires { ⌜ now t ≡ table ⌝ }
+    requires { ⌜ now t ≡ codingTable ⌝ }
     ensures { λ r. ⌜ r ≡ cyclicByte w byte ⌝ }
 {
     let low = (w % 256) as u8;

@@ -2,7 +2,7 @@
 use Prim.Native.Nat.{ℕ, zero, suc, _+_, _*_, _/_, _%_}
 use mathlib.Core.List.{List, [], _∷_}
 use lib.Bits.{bitXor}
-use Rattle.laws.proofs.Table.{tabulate}
+use Rattle.laws.specs.Table.{tabulate}
 
 -- the reflected polynomial
 abbrev pub polynomial : ℕ
@@ -26,5 +26,5 @@ unfoldable pub checksum : List ℕ → ℕ
 checksum s = checksumFrom 0 s
 
 -- what eight bits that fall out leave of each byte: the code's table
-unfoldable pub table : List ℕ
-table = tabulate (bits 8) 256 0
+unfoldable pub checksumTable : List ℕ
+checksumTable = tabulate (bits 8) 256 0

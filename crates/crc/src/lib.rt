@@ -2,7 +2,7 @@
 ghost use mathlib.Core.Path.{_≡_};
 ghost use Prim.Native.Nat.{_<_};
 ghost use lib.Bits.{bitXor};
-ghost use Rattle.crc.specs.Checksum.{checksum as checksumOf, checksumFrom, bits, table};
+ghost use Rattle.crc.specs.Checksum.{checksum as checksumOf, checksumFrom, bits, checksumTable};
 
 const TABLE: [u32; 256] = [
     0,
@@ -271,7 +271,7 @@ fn wide(byte: u8) -> u32
 
 // The checksum with one byte more.
 fn with_byte(t: &[u32; 256], sum: u32, byte: u8) -> u32
-    requires { ⌜ now t ≡ table ⌝ }
+    requires { ⌜ now t ≡ checksumTable ⌝ }
     ensures { λ r. ⌜ r ≡ bits 8 (bitXor sum byte) ⌝ }
 {
     let k = (sum ^ wide(byte)) % 256;

@@ -18,7 +18,7 @@ use Rattle.refusal.specs.declared.Refusal.{Refusal}
 use Rattle.refusal.specs.declared.Verdict.the-variants.{Accepted, Refused}
 use Rattle.refusal.specs.Order.{_then_, inOrder, AllHold, none, both, FirstFault}
 use Rattle.refusal.proofs.OrderLaws.{demanded, then-left, accepted-exactly, refused-exactly, in-order-append}
-use Rattle.header.specs.Header.{lengthFits, magicFits, clientFits, versionFits, checksumFits, sentinelFits, encodingFits, markRules, sealRules, headerRules, headerFits, fileEnd}
+use Rattle.header.specs.Header.{lengthFits, magicFits, clientFits, versionFits, headerSumFits, sentinelFits, encodingFits, markRules, sealRules, headerRules, headerFits, fileEnd}
 use Rattle.header.specs.Sound.{HeaderSound}
 
 pub long-enough : (image : List ℕ) → lengthFits image ≡ true → 564 ≤ length image
@@ -54,7 +54,7 @@ four a b c d e =
     (z .0, z .1, y .1, x .1)
 
 sound-of : (image : List ℕ) → AllHold (headerRules image) → HeaderSound image
-unfolding markRules sealRules lengthFits magicFits clientFits versionFits checksumFits sentinelFits encodingFits
+unfolding markRules sealRules lengthFits magicFits clientFits versionFits headerSumFits sentinelFits encodingFits
 sound-of image (both l (both m (both c (both v (both p (both f (both s (both e none)))))))) =
     let bounds = and-both (leb 564 (length image)) (leb (length image) 1073741824) l in
     let marks = four (eqb (byte image 0) 0x21) (eqb (byte image 1) 0x42) (eqb (byte image 2) 0x44) (eqb (byte image 3) 0x4E) m in
@@ -72,7 +72,7 @@ sound-of image (both l (both m (both c (both v (both p (both f (both s (both e n
     }
 
 holds-of : (image : List ℕ) → HeaderSound image → AllHold (headerRules image)
-unfolding markRules sealRules lengthFits magicFits clientFits versionFits checksumFits sentinelFits encodingFits
+unfolding markRules sealRules lengthFits magicFits clientFits versionFits headerSumFits sentinelFits encodingFits
 holds-of image h =
     both (both-and _ _ (le-leb _ _ (h .length-low)) (le-leb _ _ (h .length-high)))
     (both (both-and _ _ (both-and _ _ (both-and _ _ (eq-eqb _ _ (h .magic .0)) (eq-eqb _ _ (h .magic .1))) (eq-eqb _ _ (h .magic .2))) (eq-eqb _ _ (h .magic .3)))
@@ -124,7 +124,7 @@ unfolding fileEnd
 end-agrees one other e same = e
 
 pub header-agrees : (one other : List ℕ) → length one ≡ length other → part one 0 564 ≡ part other 0 564 → headerFits one ≡ headerFits other
-unfolding headerFits markRules sealRules lengthFits magicFits clientFits versionFits checksumFits sentinelFits encodingFits
+unfolding headerFits markRules sealRules lengthFits magicFits clientFits versionFits headerSumFits sentinelFits encodingFits
 header-agrees one other e same =
     let b = byte-agrees one other same in
     let f : (place width : ℕ) → place + width ≤ 564 → field one place width ≡ field other place width = λ place width h. field-agrees one other place width same h in

@@ -32,8 +32,8 @@ unfoldable pub versionFits : List ℕ → Bool
 versionFits image = eqb (field image 10 2) 23
 
 -- "the four bytes at 4 equal the checksum of 471 bytes from 8; the four bytes at 524 equal the checksum of 516 bytes from 8"
-unfoldable pub checksumFits : List ℕ → ℕ → ℕ → Bool
-checksumFits image place size = eqb (field image place 4) (checksum (part image 8 size))
+unfoldable pub headerSumFits : List ℕ → ℕ → ℕ → Bool
+headerSumFits image place size = eqb (field image place 4) (checksum (part image 8 size))
 
 -- "byte 512 is 80 hex"
 unfoldable pub sentinelFits : List ℕ → Bool
@@ -54,8 +54,8 @@ markRules image =
 
 unfoldable pub sealRules : List ℕ → List Rule
 sealRules image =
-    rule (checksumFits image 4 471) (HeaderChecksum at 4)
-    ∷ rule (checksumFits image 524 516) (HeaderChecksum at 524)
+    rule (headerSumFits image 4 471) (HeaderChecksum at 4)
+    ∷ rule (headerSumFits image 524 516) (HeaderChecksum at 524)
     ∷ rule (sentinelFits image) (Encoding at 512)
     ∷ rule (encodingFits image) (Encoding at 513)
     ∷ []

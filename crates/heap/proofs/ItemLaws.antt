@@ -18,17 +18,17 @@ use Rattle.refusal.proofs.OrderLaws.{passes, goes, ends, demanded, then-left, t
 use Rattle.heap.specs.declared.Span.{Span}
 use Rattle.heap.specs.declared.Span.the-variants.{Within}
 use Rattle.heap.specs.Shape.{mapOffset, itemCount, offset, shapeRules, heapTest, Heap}
-use Rattle.heap.specs.Items.{kindOf, indexOf, blockOf, numberFits, Numbered, badItem, itemRules, itemTest, itemStart, itemEnd, itemLength, itemPart, itemOr, itemSpan, Lies}
+use Rattle.heap.specs.Items.{itemKind, itemIndex, itemBlock, itemFits, Numbered, badItem, itemRules, itemTest, itemStart, itemEnd, itemLength, itemPart, itemOr, itemSpan, Lies}
 use Rattle.heap.proofs.ShapeLaws.{heap-exactly}
 
 -- a number names an item exactly when each rule of item numbers holds
 module _ (block : List ℕ) (item : ℕ) where
-  numbered : numberFits block item ≡ true → Numbered block item
-  unfolding numberFits
+  numbered : itemFits block item ≡ true → Numbered block item
+  unfolding itemFits
   numbered e =
-      let to = and-both (eqb (kindOf item) 0 && eqb (blockOf item) 0 && leb 1 (indexOf item)) (leb (indexOf item) (itemCount block)) e in
-      let from = and-both (eqb (kindOf item) 0 && eqb (blockOf item) 0) (leb 1 (indexOf item)) (to .0) in
-      let both = and-both (eqb (kindOf item) 0) (eqb (blockOf item) 0) (from .0) in
+      let to = and-both (eqb (itemKind item) 0 && eqb (itemBlock item) 0 && leb 1 (itemIndex item)) (leb (itemIndex item) (itemCount block)) e in
+      let from = and-both (eqb (itemKind item) 0 && eqb (itemBlock item) 0) (leb 1 (itemIndex item)) (to .0) in
+      let both = and-both (eqb (itemKind item) 0) (eqb (itemBlock item) 0) (from .0) in
       record {
         plain = eqb-true _ _ (both .0);
         here = eqb-true _ _ (both .1);
@@ -36,12 +36,12 @@ module _ (block : List ℕ) (item : ℕ) where
         to = leb-true _ _ (to .1);
       }
 
-  fits : Numbered block item → numberFits block item ≡ true
-  unfolding numberFits
+  fits : Numbered block item → itemFits block item ≡ true
+  unfolding itemFits
   fits n =
       both-and _ _ (both-and _ _ (both-and _ _ (eq-eqb _ _ (n .plain)) (eq-eqb _ _ (n .here))) (le-leb _ _ (n .from))) (le-leb _ _ (n .to))
 
-  pub number-exactly : (numberFits block item ≡ true) ↔ Numbered block item
+  pub number-exactly : (itemFits block item ≡ true) ↔ Numbered block item
   number-exactly = (numbered, fits)
 
 -- a check with nothing behind it
@@ -52,16 +52,16 @@ last-check (Refused r) = refl
 
 module _ (block : List ℕ) (item : ℕ) where
   -- the heap's shape first, then the number
-  item-test : itemTest block item ≡ (heapTest block then demand (numberFits block item) badItem)
+  item-test : itemTest block item ≡ (heapTest block then demand (itemFits block item) badItem)
   unfolding itemTest itemRules heapTest inOrder
   item-test =
-      in-order-append (shapeRules block) (rule (numberFits block item) badItem ∷ [])
-      ∙ ap (λ (v : Verdict). inOrder (shapeRules block) then v) (last-check (demand (numberFits block item) badItem))
+      in-order-append (shapeRules block) (rule (itemFits block item) badItem ∷ [])
+      ∙ ap (λ (v : Verdict). inOrder (shapeRules block) then v) (last-check (demand (itemFits block item) badItem))
 
   pub item-shape : (r : Refusal) → heapTest block ≡ Refused r → itemTest block item ≡ heapTest block
   item-shape r e = item-test ∙ ends Refused _ _ r e ∙ sym e
 
-  pub item-number : heapTest block ≡ Accepted → itemTest block item ≡ demand (numberFits block item) badItem
+  pub item-number : heapTest block ≡ Accepted → itemTest block item ≡ demand (itemFits block item) badItem
   item-number e = item-test ∙ goes Refused _ _ e
 
   -- an item is accepted exactly when the block is a heap and the number names an item of it
@@ -109,20 +109,20 @@ module _ (block : List ℕ) (h : Heap block) where
       rw e (omega (arith, rises i n s (omega arith), h .climb (i + n) (omega arith) (omega arith)))
 
   module _ (item : ℕ) (n : Numbered block item) where
-    last-above : offset block (indexOf item + 1) ≤ offset block (itemCount block + 1)
+    last-above : offset block (itemIndex item + 1) ≤ offset block (itemCount block + 1)
     last-above =
-        let e : indexOf item + 1 + (itemCount block - indexOf item) ≡ itemCount block + 1 = omega (arith, n .to) in
-        rw e at (rises (indexOf item + 1) (itemCount block - indexOf item) (omega arith) (omega arith))
+        let e : itemIndex item + 1 + (itemCount block - itemIndex item) ≡ itemCount block + 1 = omega (arith, n .to) in
+        rw e at (rises (itemIndex item + 1) (itemCount block - itemIndex item) (omega arith) (omega arith))
 
-    first-below : offset block 1 ≤ offset block (indexOf item)
+    first-below : offset block 1 ≤ offset block (itemIndex item)
     first-below =
-        let e : 1 + (indexOf item - 1) ≡ indexOf item = omega (arith, n .from) in
-        rw e at (rises 1 (indexOf item - 1) (omega arith) (omega (arith, n .to)))
+        let e : 1 + (itemIndex item - 1) ≡ itemIndex item = omega (arith, n .from) in
+        rw e at (rises 1 (itemIndex item - 1) (omega arith) (omega (arith, n .to)))
 
     -- the two offsets, as a slice asks for them
     pub starts-before : itemStart block item ≤ itemEnd block item
     unfolding itemStart itemEnd
-    starts-before = h .climb (indexOf item) (n .from) (n .to)
+    starts-before = h .climb (itemIndex item) (n .from) (n .to)
 
     ends-before : itemEnd block item ≤ mapOffset block
     unfolding itemEnd

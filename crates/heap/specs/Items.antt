@@ -15,26 +15,26 @@ use Rattle.heap.specs.declared.Span.the-variants.{Within, Refused}
 use Rattle.heap.specs.Shape.{mapOffset, itemCount, offset, shapeRules}
 
 -- "Item number: low 5 bits kind, next 11 index, high 16 block"
-unfoldable pub kindOf : ℕ → ℕ
-kindOf item = item % 32
+unfoldable pub itemKind : ℕ → ℕ
+itemKind item = item % 32
 
-unfoldable pub indexOf : ℕ → ℕ
-indexOf item = item / 32 % 2048
+unfoldable pub itemIndex : ℕ → ℕ
+itemIndex item = item / 32 % 2048
 
-unfoldable pub blockOf : ℕ → ℕ
-blockOf item = item / 65536
+unfoldable pub itemBlock : ℕ → ℕ
+itemBlock item = item / 65536
 
 -- "19 unless kind 0, block 0, index 1 to a"
-unfoldable pub numberFits : List ℕ → ℕ → Bool
-numberFits block item =
-    eqb (kindOf item) 0 && eqb (blockOf item) 0 && leb 1 (indexOf item) && leb (indexOf item) (itemCount block)
+unfoldable pub itemFits : List ℕ → ℕ → Bool
+itemFits block item =
+    eqb (itemKind item) 0 && eqb (itemBlock item) 0 && leb 1 (itemIndex item) && leb (itemIndex item) (itemCount block)
 
 -- the same as plain facts
 pub record Numbered (block : List ℕ) (item : ℕ) : Type 0 where
-  pub plain : kindOf item ≡ 0
-  pub here : blockOf item ≡ 0
-  pub from : 1 ≤ indexOf item
-  pub to : indexOf item ≤ itemCount block
+  pub plain : itemKind item ≡ 0
+  pub here : itemBlock item ≡ 0
+  pub from : 1 ≤ itemIndex item
+  pub to : itemIndex item ≤ itemCount block
 
 -- refusal 19
 abbrev pub badItem : Refusal
@@ -42,17 +42,17 @@ badItem = HeapItem at 0
 
 -- the test of an item: the heap's shape, then the item's number
 unfoldable pub itemRules : List ℕ → ℕ → List Rule
-itemRules block item = shapeRules block ++ rule (numberFits block item) badItem ∷ []
+itemRules block item = shapeRules block ++ rule (itemFits block item) badItem ∷ []
 
 unfoldable pub itemTest : List ℕ → ℕ → Verdict
 itemTest block item = inOrder (itemRules block item)
 
 -- "Item i runs from the i-th offset to the next one"
 unfoldable pub itemStart : List ℕ → ℕ → ℕ
-itemStart block item = offset block (indexOf item)
+itemStart block item = offset block (itemIndex item)
 
 unfoldable pub itemEnd : List ℕ → ℕ → ℕ
-itemEnd block item = offset block (indexOf item + 1)
+itemEnd block item = offset block (itemIndex item + 1)
 
 unfoldable pub itemLength : List ℕ → ℕ → ℕ
 itemLength block item = itemEnd block item - itemStart block item

@@ -8,7 +8,7 @@ ghost use lib.Dec.{leb};
 ghost use lib.ListN.{length};
 ghost use Rattle.le.specs.Bytes.{field};
 ghost use Rattle.heap.specs.Shape.{mapOffset, clientKind, userRoot, itemCount, offset, mapEnd, neverFall, offsetsFit, heapTest, Heap};
-ghost use Rattle.heap.specs.Items.{indexOf, numberFits, Numbered, itemTest, itemStart, itemEnd, itemLength, itemPart, itemOr, itemSpan};
+ghost use Rattle.heap.specs.Items.{itemIndex, itemFits, Numbered, itemTest, itemStart, itemEnd, itemLength, itemPart, itemOr, itemSpan};
 
 // Where an item starts and how long it is.
 pub enum Span {
@@ -135,18 +135,18 @@ pub fn user_root(block: &[u8]) -> u32
     le::field4(block, 4)
 }
 
-fn index_of(item: u32) -> usize
-    ensures { λ r. ⌜ (r ≡ indexOf item) × (r < 2048) ⌝ }
+fn item_index(item: u32) -> usize
+    ensures { λ r. ⌜ (r ≡ itemIndex item) × (r < 2048) ⌝ }
 {
     (item / 32 % 2048) as usize
 }
 
 // Whether the number names an item of this heap.
-pub fn number_fits(block: &[u8], item: u32) -> bool
+pub fn item_fits(block: &[u8], item: u32) -> bool
     requires { ⌜ Heap (now block) ⌝ }
-    ensures { λ r. ⌜ r ≡ numberFits (now (block .entry)) item ⌝ }
+    ensures { λ r. ⌜ r ≡ itemFits (now (block .entry)) item ⌝ }
 {
-    let index = index_of(item);
+    let index = item_index(item);
     let count = item_count(block);
     (item % 32 == 0) & (item / 65536 == 0) & (1 <= index) & (index <= count)
 }
@@ -159,7 +159,7 @@ pub fn test_item(block: &[u8], item: u32) -> Verdict
     let Verdict::Accepted = shape else {
         return shape;
     };
-    if !number_fits(block, item) {
+    if !item_fits(block, item) {
         return refusal::refused_at(Fault::HeapItem, 0);
     }
     Verdict::Accepted
@@ -170,14 +170,14 @@ fn bounds_of(block: &[u8], item: u32) -> Bounds
     requires { ⌜ Heap (now block) × Numbered (now block) item ⌝ }
     ensures { λ r. ⌜ (r .start ≡ itemStart (now (block .entry)) item) × (r .end ≡ itemEnd (now (block .entry)) item) × (r .start ≤ r .end) × (r .end ≤ length (now (block .entry))) ⌝ }
 {
-    let index = index_of(item);
+    let index = item_index(item);
     let start = offset_at(block, index);
     let end = offset_at(block, index + 1);
     Bounds { start, end }
 }
 
 // Where an item of this heap starts in the block.
-pub fn start_of(block: &[u8], item: u32) -> usize
+pub fn item_start(block: &[u8], item: u32) -> usize
     requires { ⌜ Heap (now block) × Numbered (now block) item ⌝ }
     ensures { λ r. ⌜ r ≡ itemStart (now (block .entry)) item ⌝ }
 {

@@ -13,11 +13,11 @@ use Rattle.keys.specs.declared.Range.{Range}
 use Rattle.keys.specs.declared.Shape.{Shape}
 use Rattle.keys.specs.declared.Seat.the-variants.{At, Nowhere}
 use Rattle.keys.specs.declared.Sought.the-variants.{Equal}
-use Rattle.keys.specs.Records.{keyOf, keysOf, records, recordAt, keyAt, Holds}
+use Rattle.keys.specs.Records.{keyOf, keysOf, records, recordAt, keyAt, RecordsIn, recordsFrom}
 use Rattle.keys.specs.Search.{lastAtMost, firstThat, withKey}
-use Rattle.keys.proofs.RecordLaws.{recordsFrom, record-inside, field-at}
+use Rattle.keys.proofs.RecordLaws.{record-inside, field-at}
 use Rattle.keys.proofs.FoundLaws.{found-inside, record-found, record-absent, chosen-inside}
-use Rattle.search.specs.Tree.{endOf, offspring, children}
+use Rattle.search.specs.SearchTree.{endOf, offspring, children}
 use Rattle.search.specs.Answer.{Answer, answer}
 use Rattle.search.specs.Descent.{picked}
 use Rattle.search.proofs.Records.{childAt, chosen-none, chosen-some}
@@ -25,15 +25,15 @@ use Rattle.heap.specs.Shape.{Heap}
 use Rattle.heap.specs.Items.{Numbered, itemStart, itemLength, itemPart}
 use Rattle.heap.proofs.ItemLaws.{item-lies}
 use Rattle.heaptree.specs.declared.Branch.{Branch}
-use Rattle.heaptree.specs.declared.Found.the-variants as found
-use Rattle.heaptree.specs.declared.Tree.{Tree}
-use Rattle.heaptree.specs.Value.{Fair, leafShape, indexShape, keyIn, shapeAt}
-use Rattle.heaptree.specs.Branches.{recordCount, recordsOf, childOf, treeOf}
+use Rattle.heaptree.specs.declared.FoundRecord.the-variants as found
+use Rattle.heaptree.specs.declared.HeapTree.{HeapTree}
+use Rattle.heaptree.specs.Value.{FairTree, leafShape, indexShape, recordKey, shapeAt}
+use Rattle.heaptree.specs.Branches.{recordCount, recordsOf, childOf, treeOn}
 use Rattle.heaptree.specs.Lookup.{Shows}
 use Rattle.heaptree.proofs.ShownLaws.{stands, nowhere}
 
 -- as many records as the bytes hold lie in the bytes
-pub records-hold : (shape : Shape) (bytes : List ℕ) → shape .width ≤ shape .size → shape .width ≤ 8 → Holds shape (recordCount shape bytes) bytes
+pub records-hold : (shape : Shape) (bytes : List ℕ) → shape .width ≤ shape .size → shape .width ≤ 8 → RecordsIn shape (recordCount shape bytes) bytes
 unfolding recordCount
 records-hold shape bytes k w = record { inside = div-mul-le-self (length bytes) (shape .size); key = k; word = w }
 
@@ -47,23 +47,23 @@ unfolding recordCount
 record-lies shape bytes i h = record-inside (length bytes / shape .size) (shape .size) i (length bytes) (div-mul-le-self (length bytes) (shape .size)) h
 
 -- the key of a record is the tree's, whatever its shape
-module _ (tree : Tree) where
-  pub keyed : (levels : ℕ) (e : List ℕ) → keyOf (shapeAt tree levels) e ≡ keyIn tree e
+module _ (tree : HeapTree) where
+  pub keyed : (levels : ℕ) (e : List ℕ) → keyOf (shapeAt tree levels) e ≡ recordKey tree e
   unfolding shapeAt keyOf
   keyed zero e = refl
   keyed (suc levels) e = refl
 
-  pub index-keyed : (e : List ℕ) → keyOf (indexShape tree) e ≡ keyIn tree e
+  pub index-keyed : (e : List ℕ) → keyOf (indexShape tree) e ≡ recordKey tree e
   unfolding keyOf
   index-keyed e = refl
 
 -- the leaf record that is found, in an item of the heap
-module _ (tree : Tree) (block : List ℕ) (heap : Heap block) (item : ℕ) (named : Numbered block item) (key : ℕ) where
+module _ (tree : HeapTree) (block : List ℕ) (heap : Heap block) (item : ℕ) (named : Numbered block item) (key : ℕ) where
   abbrev bytes : List ℕ
   bytes = itemPart block item
 
   abbrev told : Answer (List ℕ)
-  told = answer (withKey (keyIn tree) key (recordsOf (leafShape tree) bytes)) 1
+  told = answer (withKey (recordKey tree) key (recordsOf (leafShape tree) bytes)) 1
 
   abbrev sought : ℕ → Type 0
   sought i = At i ≡ firstThat Equal key (keysOf (leafShape tree) (recordCount (leafShape tree) bytes) bytes)
@@ -99,14 +99,14 @@ unfolding childOf
 child-is shape wide to end bytes i item from ei ef ee = rw (ei, ef, ee, field-at shape bytes i (shape .width) 4 wide)
 
 -- the child that is chosen, among the bytes of the branch's item
-module _ (tree : Tree) (block bytes : List ℕ) (branch : Branch) (same : bytes ≡ itemPart block (branch .item)) (key : ℕ) where
+module _ (tree : HeapTree) (block bytes : List ℕ) (branch : Branch) (same : bytes ≡ itemPart block (branch .item)) (key : ℕ) where
   abbrev count : ℕ
   count = recordCount (indexShape tree) bytes
 
   abbrev kid : Range → List ℕ → Branch
   kid = childOf (tree .key)
 
-  kids-are : (l : ℕ) → children (treeOf tree block) l branch ≡ offspring (keyIn tree) kid (branch .range .to) (records (indexShape tree) count bytes)
+  kids-are : (l : ℕ) → children (treeOn tree block) l branch ≡ offspring (recordKey tree) kid (branch .range .to) (records (indexShape tree) count bytes)
   unfolding children shapeAt recordsOf
   kids-are l = rw same
 
@@ -118,30 +118,30 @@ module _ (tree : Tree) (block bytes : List ℕ) (branch : Branch) (same : bytes 
   child-inside i e = chosen-inside (indexShape tree) count bytes key i e
 
   pub child-none : Nowhere ≡ lastAtMost key (keysOf (indexShape tree) count bytes)
-      → (l : ℕ) → [] ≡ picked (treeOf tree block) Equal key (children (treeOf tree block) l branch)
+      → (l : ℕ) → [] ≡ picked (treeOn tree block) Equal key (children (treeOn tree block) l branch)
   child-none e l =
-      sym (ap (picked (treeOf tree block) Equal key) (kids-are l)
-      ∙ chosen-none (keyIn tree) (indexShape tree) (index-keyed tree) count bytes (branch .range .to) kid (λ (b : Branch). b .range) ranged key e)
+      sym (ap (picked (treeOn tree block) Equal key) (kids-are l)
+      ∙ chosen-none (recordKey tree) (indexShape tree) (index-keyed tree) count bytes (branch .range .to) kid (λ (b : Branch). b .range) ranged key e)
 
   pub child-chosen : (i : ℕ) → At i ≡ lastAtMost key (keysOf (indexShape tree) count bytes)
-      → (l : ℕ) → childAt (keyOf (indexShape tree)) kid (branch .range .to) (indexShape tree) count bytes i ∷ [] ≡ picked (treeOf tree block) Equal key (children (treeOf tree block) l branch)
+      → (l : ℕ) → childAt (keyOf (indexShape tree)) kid (branch .range .to) (indexShape tree) count bytes i ∷ [] ≡ picked (treeOn tree block) Equal key (children (treeOn tree block) l branch)
   unfolding keyOf
   child-chosen i e l =
-      sym (ap (picked (treeOf tree block) Equal key) (kids-are l)
-      ∙ chosen-some (keyIn tree) (indexShape tree) (index-keyed tree) count bytes (branch .range .to) kid (λ (b : Branch). b .range) ranged key i e)
+      sym (ap (picked (treeOn tree block) Equal key) (kids-are l)
+      ∙ chosen-some (recordKey tree) (indexShape tree) (index-keyed tree) count bytes (branch .range .to) kid (λ (b : Branch). b .range) ranged key i e)
 
 -- the two shapes
-pub shape-leaf : (tree : Tree) (levels : ℕ) → levels ≡ 0 → leafShape tree ≡ shapeAt tree levels
+pub shape-leaf : (tree : HeapTree) (levels : ℕ) → levels ≡ 0 → leafShape tree ≡ shapeAt tree levels
 unfolding shapeAt
 shape-leaf tree zero h = refl
 shape-leaf tree (suc levels) h = absurd (omega arith)
 
-pub shape-index : (tree : Tree) (levels : ℕ) → (levels ≡ 0 → ⊥) → indexShape tree ≡ shapeAt tree levels
+pub shape-index : (tree : HeapTree) (levels : ℕ) → (levels ≡ 0 → ⊥) → indexShape tree ≡ shapeAt tree levels
 unfolding shapeAt
 shape-index tree zero h = absurd (h refl)
 shape-index tree (suc levels) h = refl
 
-pub shape-fair : (tree : Tree) → Fair tree → (levels : ℕ)
+pub shape-fair : (tree : HeapTree) → FairTree tree → (levels : ℕ)
     → (0 < (shapeAt tree levels) .size) × ((shapeAt tree levels) .width ≤ (shapeAt tree levels) .size) × ((shapeAt tree levels) .width ≤ 8)
 unfolding shapeAt
 shape-fair tree fair zero = (omega (arith, fair .0), omega arith, fair .1)

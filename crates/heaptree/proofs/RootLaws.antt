@@ -13,14 +13,14 @@ use Rattle.refusal.specs.declared.Refusal.{Refusal}
 use Rattle.refusal.specs.declared.Verdict.the-variants.{Accepted, Refused}
 use Rattle.refusal.specs.Order.{inOrder, AllHold, none, both, FirstFault, here, later}
 use Rattle.refusal.proofs.OrderLaws.{accepted-exactly, refused-exactly}
-use Rattle.heap.specs.Items.{numberFits, badItem, itemPart}
+use Rattle.heap.specs.Items.{itemFits, badItem, itemPart}
 use Rattle.heap.proofs.ItemLaws.{number-exactly}
-use Rattle.heaptree.specs.declared.Tree.{Tree}
+use Rattle.heaptree.specs.declared.HeapTree.{HeapTree}
 use Rattle.heaptree.specs.Value.{badTree}
 use Rattle.heaptree.specs.Root.{rootFits, rootRules, Rooted}
 
 -- the record's bytes
-module _ (tree : Tree) (bytes : List ℕ) where
+module _ (tree : HeapTree) (bytes : List ℕ) where
   pub root-short : (length bytes ≡ 8 → ⊥) → rootFits tree bytes ≡ false
   unfolding rootFits
   root-short n = rw (ne-eqb (length bytes) 8 n)
@@ -31,7 +31,7 @@ module _ (tree : Tree) (bytes : List ℕ) where
   unfolding rootFits
   root-bytes mark key entry levels n m k e l = rw (eq-eqb (length bytes) 8 n, m, k, e, l)
 
-module _ (tree : Tree) (block : List ℕ) (root : ℕ) where
+module _ (tree : HeapTree) (block : List ℕ) (root : ℕ) where
   facts : AllHold (rootRules tree block root) → Rooted tree block root
   unfolding rootRules rootFits
   facts (both n (both f none)) =
@@ -65,11 +65,11 @@ module _ (tree : Tree) (block : List ℕ) (root : ℕ) where
   root-refused-exactly r = refused-exactly (rootRules tree block root) r
 
   -- the rules, one at a time
-  pub wrong-number : numberFits block root ≡ false → inOrder (rootRules tree block root) ≡ Refused badItem
+  pub wrong-number : itemFits block root ≡ false → inOrder (rootRules tree block root) ≡ Refused badItem
   unfolding rootRules
   wrong-number n = refused-exactly (rootRules tree block root) badItem .1 (here n)
 
-  module _ (number : numberFits block root ≡ true) where
+  module _ (number : itemFits block root ≡ true) where
     pub wrong-record : rootFits tree (itemPart block root) ≡ false → inOrder (rootRules tree block root) ≡ Refused (badTree tree)
     unfolding rootRules
     wrong-record f = refused-exactly (rootRules tree block root) (badTree tree) .1 (later number (here f))

@@ -7,18 +7,18 @@ use lib.ListN.{length}
 use Rattle.le.specs.Bytes.{part}
 use Rattle.refusal.specs.declared.Refusal.{Refusal}
 use Rattle.search.specs.Answer.{Answer, absent, refused, answer, counted}
-use Rattle.search.specs.Holds.{Says}
-use Rattle.heaptree.specs.declared.Found.{Found}
-use Rattle.heaptree.specs.declared.Found.the-variants.{At, Absent, Refused}
-use Rattle.heaptree.specs.declared.Tree.{Tree}
-use Rattle.heaptree.specs.Lookup.{Shows, read}
+use Rattle.search.specs.Promises.{Says}
+use Rattle.heaptree.specs.declared.FoundRecord.{FoundRecord}
+use Rattle.heaptree.specs.declared.FoundRecord.the-variants.{At, Absent, Refused}
+use Rattle.heaptree.specs.declared.HeapTree.{HeapTree}
+use Rattle.heaptree.specs.Lookup.{Shows, byCase}
 
 counted-answer : (x : Option (List ℕ)) (n m : ℕ) → counted n (answer x m) ≡ answer x (n + m)
 unfolding counted answer
 counted-answer none n m = refl
 counted-answer (some e) n m = refl
 
-module _ (tree : Tree) (block : List ℕ) where
+module _ (tree : HeapTree) (block : List ℕ) where
   abbrev size : ℕ
   size = tree .key + tree .entry
 
@@ -42,14 +42,14 @@ module _ (tree : Tree) (block : List ℕ) where
   more : (n : ℕ) (a : Answer (List ℕ)) (o : Option (List ℕ)) → Says a o → Says (counted n a) o
   more n a o s = record { count = n + s .count; is = ap (counted n) (s .is) ∙ counted-answer o n (s .count) }
 
-  pub shows-counted : (n : ℕ) (r : Found) (a : Answer (List ℕ)) → Shows tree block r a → Shows tree block r (counted n a)
+  pub shows-counted : (n : ℕ) (r : FoundRecord) (a : Answer (List ℕ)) → Shows tree block r a → Shows tree block r (counted n a)
   unfolding Shows counted
   shows-counted n (At place) a s = (s .0, more n a _ (s .1))
   shows-counted n Absent a s = more n a _ s
   shows-counted n (Refused r) a s = ap (counted n) s
 
   -- r is what code was answered
-  module _ (r : Found) (a : Answer (List ℕ)) (s : Shows tree block r a) where
+  module _ (r : FoundRecord) (a : Answer (List ℕ)) (s : Shows tree block r a) where
     shown-at : (place : ℕ) → r ≡ At place → (place + size ≤ length block) × Says a (some (part block place size))
     unfolding Shows
     shown-at place e = subst (λ x. Shows tree block x a) e s
@@ -68,24 +68,24 @@ module _ (tree : Tree) (block : List ℕ) where
 
     -- what a caller makes of it
     module _ {A : Type 0} (of : List ℕ → A) (missing : A) (refusing : Refusal → A) where
-      pub read-at : (place : ℕ) → r ≡ At place → of (part block place size) ≡ read of missing refusing a
-      unfolding read answer
-      read-at place e = sym (ap (read of missing refusing) (shown-at place e .1 .is))
+      pub read-at : (place : ℕ) → r ≡ At place → of (part block place size) ≡ byCase of missing refusing a
+      unfolding byCase answer
+      read-at place e = sym (ap (byCase of missing refusing) (shown-at place e .1 .is))
 
-      pub read-none : r ≡ Absent → missing ≡ read of missing refusing a
-      unfolding read answer
-      read-none e = sym (ap (read of missing refusing) (shown-none e .is))
+      pub read-none : r ≡ Absent → missing ≡ byCase of missing refusing a
+      unfolding byCase answer
+      read-none e = sym (ap (byCase of missing refusing) (shown-none e .is))
 
-      pub read-wrong : (f : Refusal) → r ≡ Refused f → refusing f ≡ read of missing refusing a
-      unfolding read
-      read-wrong f e = sym (ap (read of missing refusing) (shown-wrong f e))
+      pub read-wrong : (f : Refusal) → r ≡ Refused f → refusing f ≡ byCase of missing refusing a
+      unfolding byCase
+      read-wrong f e = sym (ap (byCase of missing refusing) (shown-wrong f e))
 
 -- an answer read as the entry that it says, or none
 module _ {A : Type 0} (of : List ℕ → A) (missing : A) (refusing : Refusal → A) where
-  any-count : (o : Option (List ℕ)) (m n : ℕ) → read of missing refusing (answer o m) ≡ read of missing refusing (answer o n)
-  unfolding read answer
+  any-count : (o : Option (List ℕ)) (m n : ℕ) → byCase of missing refusing (answer o m) ≡ byCase of missing refusing (answer o n)
+  unfolding byCase answer
   any-count none m n = refl
   any-count (some e) m n = refl
 
-  pub read-says : (a : Answer (List ℕ)) (o : Option (List ℕ)) → Says a o → read of missing refusing a ≡ read of missing refusing (answer o 0)
-  read-says a o s = ap (read of missing refusing) (s .is) ∙ any-count o (s .count) 0
+  pub read-says : (a : Answer (List ℕ)) (o : Option (List ℕ)) → Says a o → byCase of missing refusing a ≡ byCase of missing refusing (answer o 0)
+  read-says a o s = ap (byCase of missing refusing) (s .is) ∙ any-count o (s .count) 0

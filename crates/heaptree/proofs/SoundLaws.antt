@@ -14,21 +14,21 @@ use Rattle.refusal.specs.Order.{FirstFault}
 use Rattle.refusal.proofs.OrderLaws.{refused-exactly}
 use Rattle.keys.specs.Range.{ordered, climbing}
 use Rattle.keys.proofs.Climbs.{ordered-exactly, climbing-is, is-climbing}
-use Rattle.search.specs.Tree.{test, under}
+use Rattle.search.specs.SearchTree.{test, checkUnder}
 use Rattle.search.proofs.Checked.{exact}
 use Rattle.heap.specs.Items.{itemPart}
 use Rattle.heap.proofs.ItemLaws.{number-exactly}
 use Rattle.heaptree.specs.declared.Branch.{Branch}
-use Rattle.heaptree.specs.declared.Tree.{Tree}
+use Rattle.heaptree.specs.declared.HeapTree.{HeapTree}
 use Rattle.heaptree.specs.Value.{shapeAt}
 use Rattle.heaptree.specs.Root.{indexLevels, rootItem}
-use Rattle.heaptree.specs.Branches.{recordsFit, branchRules, treeOf}
+use Rattle.heaptree.specs.Branches.{recordsFit, branchRules, treeOn}
 use Rattle.heaptree.specs.Lookup.{rootBranch}
-use Rattle.heaptree.specs.Sound.{keysIn, BranchSound, SoundTree}
+use Rattle.heaptree.specs.Sound.{keysIn, BranchSound, HeapTreeSound}
 use Rattle.heaptree.proofs.StepLaws.{branch-accepted, branch-numbered, branch-fits}
 
-module _ (tree : Tree) (block : List ℕ) (levels : ℕ) (branch : Branch) where
-  sound-of : test (treeOf tree block) levels branch ≡ Accepted → BranchSound tree block levels branch
+module _ (tree : HeapTree) (block : List ℕ) (levels : ℕ) (branch : Branch) where
+  sound-of : test (treeOn tree block) levels branch ≡ Accepted → BranchSound tree block levels branch
   unfolding recordsFit
   sound-of e =
       let n = length (itemPart block (branch .item)) in
@@ -43,7 +43,7 @@ module _ (tree : Tree) (block : List ℕ) (levels : ℕ) (branch : Branch) where
         inside = keys .1;
       }
 
-  of-sound : BranchSound tree block levels branch → test (treeOf tree block) levels branch ≡ Accepted
+  of-sound : BranchSound tree block levels branch → test (treeOn tree block) levels branch ≡ Accepted
   unfolding recordsFit
   of-sound s =
       branch-accepted tree block levels branch (number-exactly block (branch .item) .1 (s .named))
@@ -51,17 +51,17 @@ module _ (tree : Tree) (block : List ℕ) (levels : ℕ) (branch : Branch) where
       (is-climbing _ (ordered-exactly (branch .range) (keysIn tree block levels branch) .1 (s .ascending, s .inside))))
 
   -- an item is accepted exactly when each rule holds
-  pub branch-exactly : (test (treeOf tree block) levels branch ≡ Accepted) ↔ BranchSound tree block levels branch
+  pub branch-exactly : (test (treeOn tree block) levels branch ≡ Accepted) ↔ BranchSound tree block levels branch
   branch-exactly = (sound-of, of-sound)
 
   -- and refused exactly with the first rule that it breaks
-  pub branch-refused-exactly : (r : Refusal) → (test (treeOf tree block) levels branch ≡ Refused r) ↔ FirstFault (branchRules tree block levels branch) r
+  pub branch-refused-exactly : (r : Refusal) → (test (treeOn tree block) levels branch ≡ Refused r) ↔ FirstFault (branchRules tree block levels branch) r
   unfolding test
   branch-refused-exactly r = refused-exactly (branchRules tree block levels branch) r
 
 -- a sound tree is accepted
-pub tree-accepted : (tree : Tree) (block : List ℕ) (root : ℕ) → SoundTree tree block root → (rootItem block root ≡ 0 → ⊥)
-    → under (treeOf tree block) (indexLevels block root) (rootBranch block root) ≡ Accepted
+pub tree-accepted : (tree : HeapTree) (block : List ℕ) (root : ℕ) → HeapTreeSound tree block root → (rootItem block root ≡ 0 → ⊥)
+    → checkUnder (treeOn tree block) (indexLevels block root) (rootBranch block root) ≡ Accepted
 tree-accepted tree block root sound some =
-    exact (treeOf tree block) (indexLevels block root) (rootBranch block root) .accepted .1
+    exact (treeOn tree block) (indexLevels block root) (rootBranch block root) .accepted .1
     (λ levels branch r. branch-exactly tree block levels branch .1 (sound .items some levels branch r))

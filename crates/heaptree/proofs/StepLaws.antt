@@ -13,82 +13,82 @@ use Rattle.le.specs.Bytes.{byte, field}
 use Rattle.keys.specs.declared.End.the-variants.{Open}
 use Rattle.keys.specs.declared.Sought.the-variants.{Equal}
 use Rattle.keys.specs.Search.{withKey}
-use Rattle.search.specs.Tree.{test, children}
+use Rattle.search.specs.SearchTree.{test, children}
 use Rattle.search.specs.Answer.{answer}
 use Rattle.search.specs.Descent.{picked, descend}
 use Rattle.search.proofs.Steps.{step-refused, step-leaf, step-none, step-one}
-use Rattle.heap.specs.Items.{numberFits, Numbered, badItem, itemPart}
+use Rattle.heap.specs.Items.{itemFits, Numbered, badItem, itemPart}
 use Rattle.heap.proofs.ItemLaws.{number-exactly}
 use Rattle.heaptree.specs.declared.Branch.{Branch}
-use Rattle.heaptree.specs.declared.Found.{Found}
-use Rattle.heaptree.specs.declared.Found.the-variants as found
-use Rattle.heaptree.specs.declared.Tree.{Tree}
-use Rattle.heaptree.specs.Value.{badTree, leafShape, keyIn, shapeAt}
+use Rattle.heaptree.specs.declared.FoundRecord.{FoundRecord}
+use Rattle.heaptree.specs.declared.FoundRecord.the-variants as found
+use Rattle.heaptree.specs.declared.HeapTree.{HeapTree}
+use Rattle.heaptree.specs.Value.{badTree, leafShape, recordKey, shapeAt}
 use Rattle.heaptree.specs.Root.{indexLevels, rootItem}
-use Rattle.heaptree.specs.Branches.{recordsFit, recordsOf, branchRules, treeOf}
+use Rattle.heaptree.specs.Branches.{recordsFit, recordsOf, branchRules, treeOn}
 use Rattle.heaptree.specs.Lookup.{rootBranch, fromRoot, Shows}
 use Rattle.heaptree.proofs.ShownLaws.{nothing, wrong, shows-counted}
 
 -- the test of an item, one rule at a time
-module _ (tree : Tree) (block : List ℕ) (levels : ℕ) (branch : Branch) where
-  pub branch-number : numberFits block (branch .item) ≡ false → test (treeOf tree block) levels branch ≡ Refused badItem
+module _ (tree : HeapTree) (block : List ℕ) (levels : ℕ) (branch : Branch) where
+  pub branch-number : itemFits block (branch .item) ≡ false → test (treeOn tree block) levels branch ≡ Refused badItem
   unfolding test branchRules
   branch-number n = refused-exactly (branchRules tree block levels branch) badItem .1 (here n)
 
-  pub branch-records : numberFits block (branch .item) ≡ true → recordsFit (shapeAt tree levels) (branch .range) (itemPart block (branch .item)) ≡ false
-      → test (treeOf tree block) levels branch ≡ Refused (badTree tree)
+  pub branch-records : itemFits block (branch .item) ≡ true → recordsFit (shapeAt tree levels) (branch .range) (itemPart block (branch .item)) ≡ false
+      → test (treeOn tree block) levels branch ≡ Refused (badTree tree)
   unfolding test branchRules
   branch-records n f = refused-exactly (branchRules tree block levels branch) (badTree tree) .1 (later n (here f))
 
-  pub branch-accepted : numberFits block (branch .item) ≡ true → recordsFit (shapeAt tree levels) (branch .range) (itemPart block (branch .item)) ≡ true
-      → test (treeOf tree block) levels branch ≡ Accepted
+  pub branch-accepted : itemFits block (branch .item) ≡ true → recordsFit (shapeAt tree levels) (branch .range) (itemPart block (branch .item)) ≡ true
+      → test (treeOn tree block) levels branch ≡ Accepted
   unfolding test branchRules
   branch-accepted n f = accepted-exactly (branchRules tree block levels branch) .1 (both n (both f none))
 
   -- what an accepted item says
   branch-both : AllHold (branchRules tree block levels branch)
-      → (numberFits block (branch .item) ≡ true) × (recordsFit (shapeAt tree levels) (branch .range) (itemPart block (branch .item)) ≡ true)
+      → (itemFits block (branch .item) ≡ true) × (recordsFit (shapeAt tree levels) (branch .range) (itemPart block (branch .item)) ≡ true)
   unfolding branchRules
   branch-both (both n (both f none)) = (n, f)
 
-  pub branch-numbered : test (treeOf tree block) levels branch ≡ Accepted → Numbered block (branch .item)
+  pub branch-numbered : test (treeOn tree block) levels branch ≡ Accepted → Numbered block (branch .item)
   unfolding test
   branch-numbered e = number-exactly block (branch .item) .0 (branch-both (accepted-exactly (branchRules tree block levels branch) .0 e) .0)
 
-  pub branch-fits : test (treeOf tree block) levels branch ≡ Accepted → recordsFit (shapeAt tree levels) (branch .range) (itemPart block (branch .item)) ≡ true
+  pub branch-fits : test (treeOn tree block) levels branch ≡ Accepted → recordsFit (shapeAt tree levels) (branch .range) (itemPart block (branch .item)) ≡ true
   unfolding test
   branch-fits e = branch-both (accepted-exactly (branchRules tree block levels branch) .0 e) .1
 
 -- v is what the test of the item said
-module _ (tree : Tree) (block : List ℕ) (key : ℕ) (branch : Branch) (v : Verdict) (levels : ℕ) (t : v ≡ test (treeOf tree block) levels branch) where
-  abbrev Go : Found → ℕ → Branch → Type 0
-  Go r l b = Shows tree block r (descend (treeOf tree block) Equal key l b)
+module _ (tree : HeapTree) (block : List ℕ) (key : ℕ) (branch : Branch) (v : Verdict) (levels : ℕ) (t : v ≡ test (treeOn tree block) levels branch) where
+  abbrev Go : FoundRecord → ℕ → Branch → Type 0
+  Go r l b = Shows tree block r (descend (treeOn tree block) Equal key l b)
 
   pub under-fault : (r : Refusal) → v ≡ Refused r → Go (found.Refused r) levels branch
-  under-fault r q = subst (Shows tree block (found.Refused r)) (sym (step-refused (treeOf tree block) Equal key branch v levels r t q)) (wrong tree block r)
+  under-fault r q = subst (Shows tree block (found.Refused r)) (sym (step-refused (treeOn tree block) Equal key branch v levels r t q)) (wrong tree block r)
 
-  pub under-leaf : (r : Found) → levels ≡ 0 → v ≡ Accepted
-      → Shows tree block r (answer (withKey (keyIn tree) key (recordsOf (leafShape tree) (itemPart block (branch .item)))) 1) → Go r levels branch
+  pub under-leaf : (r : FoundRecord) → levels ≡ 0 → v ≡ Accepted
+      → Shows tree block r (answer (withKey (recordKey tree) key (recordsOf (leafShape tree) (itemPart block (branch .item)))) 1) → Go r levels branch
   unfolding shapeAt
-  under-leaf r h q s = subst (Shows tree block r) (sym (step-leaf (treeOf tree block) Equal key branch v levels h t q)) s
+  under-leaf r h q s = subst (Shows tree block r) (sym (step-leaf (treeOn tree block) Equal key branch v levels h t q)) s
 
   module _ (h : levels ≡ 0 → ⊥) (q : v ≡ Accepted) where
-    pub under-absent : [] ≡ picked (treeOf tree block) Equal key (children (treeOf tree block) (levels - 1) branch) → Go found.Absent levels branch
-    under-absent e = subst (Shows tree block found.Absent) (sym (step-none (treeOf tree block) Equal key branch v levels h t q (sym e))) (nothing tree block 1)
+    pub under-absent : [] ≡ picked (treeOn tree block) Equal key (children (treeOn tree block) (levels - 1) branch) → Go found.Absent levels branch
+    under-absent e = subst (Shows tree block found.Absent) (sym (step-none (treeOn tree block) Equal key branch v levels h t q (sym e))) (nothing tree block 1)
 
-    pub under-on : (r : Found) (child : Branch) → child ∷ [] ≡ picked (treeOf tree block) Equal key (children (treeOf tree block) (levels - 1) branch)
+    pub under-on : (r : FoundRecord) (child : Branch) → child ∷ [] ≡ picked (treeOn tree block) Equal key (children (treeOn tree block) (levels - 1) branch)
         → Go r (levels - 1) child → Go r levels branch
     under-on r child e s =
-        subst (Shows tree block r) (sym (step-one (treeOf tree block) Equal key branch v levels child h t q (sym e))) (shows-counted tree block 1 r _ s)
+        subst (Shows tree block r) (sym (step-one (treeOn tree block) Equal key branch v levels child h t q (sym e))) (shows-counted tree block 1 r _ s)
 
 -- the root item, where `bytes` is the root record
-module _ (tree : Tree) (block bytes : List ℕ) (root key : ℕ) (same : bytes ≡ itemPart block root) where
+module _ (tree : HeapTree) (block bytes : List ℕ) (root key : ℕ) (same : bytes ≡ itemPart block root) where
   pub from-none : field bytes 4 4 ≡ 0 → Shows tree block found.Absent (fromRoot tree block root key)
   unfolding fromRoot rootItem
   from-none e = rw (← same, eq-eqb (field bytes 4 4) 0 e) (nothing tree block 0)
 
-  pub from-some : (r : Found) (item levels : ℕ) → item ≡ field bytes 4 4 → levels ≡ byte bytes 3 → (item ≡ 0 → ⊥)
-      → Shows tree block r (descend (treeOf tree block) Equal key levels (record { item = item; range = record { from = 0; to = Open } }))
+  pub from-some : (r : FoundRecord) (item levels : ℕ) → item ≡ field bytes 4 4 → levels ≡ byte bytes 3 → (item ≡ 0 → ⊥)
+      → Shows tree block r (descend (treeOn tree block) Equal key levels (record { item = item; range = record { from = 0; to = Open } }))
       → Shows tree block r (fromRoot tree block root key)
   unfolding fromRoot rootItem indexLevels rootBranch
   from-some r item levels i l n s = rw (← same, ← i, ← l, ne-eqb item 0 n) s

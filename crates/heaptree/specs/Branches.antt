@@ -10,11 +10,11 @@ use Rattle.keys.specs.declared.Range.{Range}
 use Rattle.keys.specs.declared.Shape.{Shape}
 use Rattle.keys.specs.Records.{records, keysOf}
 use Rattle.keys.specs.Range.{ordered, climbing}
-use Rattle.search.specs.Tree.{Form}
-use Rattle.heap.specs.Items.{numberFits, badItem, itemPart}
+use Rattle.search.specs.SearchTree.{SearchTree}
+use Rattle.heap.specs.Items.{itemFits, badItem, itemPart}
 use Rattle.heaptree.specs.declared.Branch.{Branch}
-use Rattle.heaptree.specs.declared.Tree.{Tree}
-use Rattle.heaptree.specs.Value.{badTree, shapeAt, keyIn}
+use Rattle.heaptree.specs.declared.HeapTree.{HeapTree}
+use Rattle.heaptree.specs.Value.{badTree, shapeAt, recordKey}
 
 -- as many records as the bytes hold
 unfoldable pub recordCount : Shape → List ℕ → ℕ
@@ -33,21 +33,21 @@ recordsOf shape bytes = records shape (recordCount shape bytes) bytes
 unfoldable pub childOf : ℕ → Range → List ℕ → Branch
 childOf key range entry = record { item = field entry key 4; range = range }
 
-module _ (tree : Tree) (block : List ℕ) where
+module _ (tree : HeapTree) (block : List ℕ) where
   -- an item of the tree: 19 for its number, then its shape
   unfoldable pub branchRules : ℕ → Branch → List Rule
   branchRules levels branch =
-      rule (numberFits block (branch .item)) badItem
+      rule (itemFits block (branch .item)) badItem
       ∷ rule (recordsFit (shapeAt tree levels) (branch .range) (itemPart block (branch .item))) (badTree tree)
       ∷ []
 
   -- the tree, as a search tree
-  abbrev pub treeOf : Form Branch (List ℕ)
-  treeOf =
+  abbrev pub treeOn : SearchTree Branch (List ℕ)
+  treeOn =
       record {
         rules = λ levels branch. branchRules levels branch;
         entries = λ levels branch. recordsOf (shapeAt tree levels) (itemPart block (branch .item));
-        key = keyIn tree;
+        key = recordKey tree;
         range = λ branch. branch .range;
         child = λ levels range entry. childOf (tree .key) range entry;
       }

@@ -7,12 +7,12 @@ use lib.Dec.{leb, eqb}
 use lib.ListN.{length}
 use Rattle.le.specs.Bytes.{byte, field}
 use Rattle.refusal.specs.Order.{Rule, rule}
-use Rattle.heap.specs.Items.{numberFits, Numbered, badItem, itemPart}
-use Rattle.heaptree.specs.declared.Tree.{Tree}
+use Rattle.heap.specs.Items.{itemFits, Numbered, badItem, itemPart}
+use Rattle.heaptree.specs.declared.HeapTree.{HeapTree}
 use Rattle.heaptree.specs.Value.{badTree}
 
 -- "an item of 8 bytes: B5 hex, key size .., entry size .., index levels, root item"; "index levels 0 to 3"
-unfoldable pub rootFits : Tree → List ℕ → Bool
+unfoldable pub rootFits : HeapTree → List ℕ → Bool
 rootFits tree root =
     eqb (length root) 8 && eqb (byte root 0) 0xB5 && eqb (byte root 1) (tree .key) && eqb (byte root 2) (tree .entry) && leb (byte root 3) 3
 
@@ -24,10 +24,10 @@ module _ (block : List ℕ) (root : ℕ) where
   unfoldable pub rootItem : ℕ
   rootItem = field (itemPart block root) 4 4
 
-module _ (tree : Tree) (block : List ℕ) (root : ℕ) where
+module _ (tree : HeapTree) (block : List ℕ) (root : ℕ) where
   -- the number of its item, 19, and the record
   unfoldable pub rootRules : List Rule
-  rootRules = rule (numberFits block root) badItem ∷ rule (rootFits tree (itemPart block root)) (badTree tree) ∷ []
+  rootRules = rule (itemFits block root) badItem ∷ rule (rootFits tree (itemPart block root)) (badTree tree) ∷ []
 
   -- the same rules as plain facts, with no order among them
   pub record Rooted : Type 0 where

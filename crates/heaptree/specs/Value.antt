@@ -5,13 +5,13 @@ use Rattle.refusal.specs.declared.Refusal.{Refusal}
 use Rattle.refusal.specs.Order.{_at_}
 use Rattle.keys.specs.declared.Shape.{Shape}
 use Rattle.keys.specs.Records.{keyOf}
-use Rattle.heaptree.specs.declared.Tree.{Tree}
+use Rattle.heaptree.specs.declared.HeapTree.{HeapTree}
 
 -- sizes that a root record can state, and a key that fits a machine word
-abbrev pub Fair : Tree → Type 0
-Fair tree = (1 ≤ tree .key) × (tree .key ≤ 8) × (tree .entry ≤ 255)
+abbrev pub FairTree : HeapTree → Type 0
+FairTree tree = (1 ≤ tree .key) × (tree .key ≤ 8) × (tree .entry ≤ 255)
 
-module _ (tree : Tree) where
+module _ (tree : HeapTree) where
   -- the refusal of a wrong shape
   abbrev pub badTree : Refusal
   badTree = tree .fault at 0
@@ -29,5 +29,5 @@ module _ (tree : Tree) where
   shapeAt (suc levels) = indexShape
 
   -- the key of a record, leaf or index
-  abbrev pub keyIn : List ℕ → ℕ
-  keyIn entry = keyOf leafShape entry
+  abbrev pub recordKey : List ℕ → ℕ
+  recordKey entry = keyOf leafShape entry

@@ -10,23 +10,22 @@ use refusal::Verdict;
 ghost use mathlib.Core.Path.{_≡_};
 ghost use Prim.Native.Nat.{_+_, _≤_, _<_};
 ghost use Rattle.refusal.specs.Order.{inOrder};
-ghost use Rattle.keys.specs.Records.{keyOf};
+ghost use Rattle.keys.specs.Records.{keyOf, recordsFrom};
 ghost use Rattle.keys.specs.Search.{withKey};
-ghost use Rattle.keys.proofs.RecordLaws.{recordsFrom};
-ghost use Rattle.search.specs.Tree.{test, endOf};
+ghost use Rattle.search.specs.SearchTree.{test, endOf};
 ghost use Rattle.search.specs.Answer.{answer};
 ghost use Rattle.search.specs.Descent.{descend};
 ghost use Rattle.search.proofs.Records.{childAt};
 ghost use Rattle.heap.specs.Shape.{Heap};
 ghost use Rattle.heap.specs.Items.{Numbered, itemPart};
-ghost use Rattle.heaptree.specs.Value.{Fair, leafShape, shapeAt, keyIn};
+ghost use Rattle.heaptree.specs.Value.{FairTree, leafShape, shapeAt, recordKey};
 ghost use Rattle.heaptree.specs.Root.{rootFits, rootRules, Rooted};
-ghost use Rattle.heaptree.specs.Branches.{recordCount, recordsFit, recordsOf, childOf, treeOf};
+ghost use Rattle.heaptree.specs.Branches.{recordCount, recordsFit, recordsOf, childOf, treeOn};
 ghost use Rattle.heaptree.specs.Lookup.{fromRoot, Shows};
 ghost use Rattle.heaptree.specs.Steps.{ChosenIs};
 
 // What a tree on a heap is told by: how many bytes its keys and its entries have, and the fault of a wrong shape.
-pub struct Tree {
+pub struct HeapTree {
     pub key: usize,
     pub entry: usize,
     pub fault: Fault,
@@ -44,13 +43,13 @@ pub enum Chosen {
 }
 
 // Where in the block the leaf record with the key starts.
-pub enum Found {
+pub enum FoundRecord {
     At(usize),
     Absent,
     Refused(Refusal),
 }
 
-fn root_fits(tree: Tree, root: &[u8]) -> bool
+fn root_fits(tree: HeapTree, root: &[u8]) -> bool
     ensures { λ r. ⌜ r ≡ rootFits tree (now (root .entry)) ⌝ }
 {
     if root.len() != 8 {
@@ -65,11 +64,11 @@ fn root_fits(tree: Tree, root: &[u8]) -> bool
 }
 
 // The record from which a tree starts: 19 for the number of its item, then the tree's fault.
-pub fn check_root(block: &[u8], tree: Tree, root: u32) -> Verdict
+pub fn check_root(block: &[u8], tree: HeapTree, root: u32) -> Verdict
     requires { ⌜ Heap (now block) ⌝ }
     ensures { λ r. ⌜ r ≡ inOrder (rootRules tree (now (block .entry)) root) ⌝ }
 {
-    if !heap::number_fits(block, root) {
+    if !heap::item_fits(block, root) {
         return refusal::refused_at(Fault::HeapItem, 0);
     }
     let fault = tree.fault;
@@ -79,8 +78,8 @@ pub fn check_root(block: &[u8], tree: Tree, root: u32) -> Verdict
     Verdict::Accepted
 }
 
-fn shape_at(tree: Tree, levels: usize) -> Shape
-    requires { ⌜ Fair tree ⌝ }
+fn shape_at(tree: HeapTree, levels: usize) -> Shape
+    requires { ⌜ FairTree tree ⌝ }
     ensures { λ r. ⌜ r ≡ shapeAt tree levels ⌝ }
 {
     if levels == 0 {
@@ -106,12 +105,12 @@ fn records_fit(bytes: &[u8], shape: Shape, range: Range) -> bool
 }
 
 // An item of the tree: 19 for its number, then the tree's fault for its shape.
-fn check_branch(block: &[u8], tree: Tree, levels: usize, branch: Branch) -> Verdict
-    requires { ⌜ Heap (now block) × Fair tree ⌝ }
-    ensures { λ r. ⌜ r ≡ test (treeOf tree (now (block .entry))) levels branch ⌝ }
+fn check_branch(block: &[u8], tree: HeapTree, levels: usize, branch: Branch) -> Verdict
+    requires { ⌜ Heap (now block) × FairTree tree ⌝ }
+    ensures { λ r. ⌜ r ≡ test (treeOn tree (now (block .entry))) levels branch ⌝ }
 {
     let item = branch.item;
-    if !heap::number_fits(block, item) {
+    if !heap::item_fits(block, item) {
         return refusal::refused_at(Fault::HeapItem, 0);
     }
     let fault = tree.fault;
@@ -123,9 +122,9 @@ fn check_branch(block: &[u8], tree: Tree, levels: usize, branch: Branch) -> Verd
 }
 
 // Where the leaf record with the key stands, in an accepted leaf item.
-fn find_in_leaf(block: &[u8], tree: Tree, key: u64, item: u32) -> Found
-    requires { ⌜ Heap (now block) × Numbered (now block) item × Fair tree ⌝ }
-    ensures { λ r. ⌜ Shows tree (now (block .entry)) r (answer (withKey (keyIn tree) key (recordsOf (leafShape tree) (itemPart (now (block .entry)) item))) 1) ⌝ }
+fn find_in_leaf(block: &[u8], tree: HeapTree, key: u64, item: u32) -> FoundRecord
+    requires { ⌜ Heap (now block) × Numbered (now block) item × FairTree tree ⌝ }
+    ensures { λ r. ⌜ Shows tree (now (block .entry)) r (answer (withKey (recordKey tree) key (recordsOf (leafShape tree) (itemPart (now (block .entry)) item))) 1) ⌝ }
 {
     let records = heap::part_of(block, item);
     let width = tree.key;
@@ -133,9 +132,9 @@ fn find_in_leaf(block: &[u8], tree: Tree, key: u64, item: u32) -> Found
     let shape = Shape { size, width };
     let seat = keys::first_that(records, shape, records.len() / size, Sought::Equal, key);
     let Seat::At(i) = seat else {
-        return Found::Absent;
+        return FoundRecord::Absent;
     };
-    Found::At(heap::start_of(block, item) + i * size)
+    FoundRecord::At(heap::item_start(block, item) + i * size)
 }
 
 // Where the range of the child before the i-th index record ends.
@@ -165,8 +164,8 @@ fn child_at(records: &[u8], shape: Shape, i: usize, to: End) -> Branch
 }
 
 // The child of an accepted index item under which the key must stand.
-fn choose_child(block: &[u8], tree: Tree, key: u64, branch: Branch) -> Chosen
-    requires { ⌜ Heap (now block) × Numbered (now block) (branch .item) × Fair tree ⌝ }
+fn choose_child(block: &[u8], tree: HeapTree, key: u64, branch: Branch) -> Chosen
+    requires { ⌜ Heap (now block) × Numbered (now block) (branch .item) × FairTree tree ⌝ }
     ensures { λ r. ⌜ ChosenIs tree (now (block .entry)) key branch r ⌝ }
 {
     let item = branch.item;
@@ -184,13 +183,13 @@ fn choose_child(block: &[u8], tree: Tree, key: u64, branch: Branch) -> Chosen
 }
 
 // The descent from an item so many index levels above the leaves.
-fn find_under(block: &[u8], tree: Tree, key: u64, levels: usize, branch: Branch) -> Found
-    requires { ⌜ Heap (now block) × Fair tree ⌝ }
-    ensures { λ r. ⌜ Shows tree (now (block .entry)) r (descend (treeOf tree (now (block .entry))) Sought.Equal key levels branch) ⌝ }
+fn find_under(block: &[u8], tree: HeapTree, key: u64, levels: usize, branch: Branch) -> FoundRecord
+    requires { ⌜ Heap (now block) × FairTree tree ⌝ }
+    ensures { λ r. ⌜ Shows tree (now (block .entry)) r (descend (treeOn tree (now (block .entry))) Sought.Equal key levels branch) ⌝ }
 {
     let verdict = check_branch(block, tree, levels, branch);
     if let Verdict::Refused(refusal) = verdict {
-        return Found::Refused(refusal);
+        return FoundRecord::Refused(refusal);
     }
     let item = branch.item;
     if levels == 0 {
@@ -198,20 +197,20 @@ fn find_under(block: &[u8], tree: Tree, key: u64, levels: usize, branch: Branch)
     }
     let chosen = choose_child(block, tree, key, branch);
     let Chosen::Child(child) = chosen else {
-        return Found::Absent;
+        return FoundRecord::Absent;
     };
     find_under(block, tree, key, levels - 1, child)
 }
 
 // The leaf record with the key, of the tree that starts from an accepted root record.
-pub fn find_from(block: &[u8], tree: Tree, root: u32, key: u64) -> Found
-    requires { ⌜ Heap (now block) × Fair tree × Rooted tree (now block) root ⌝ }
+pub fn find_from(block: &[u8], tree: HeapTree, root: u32, key: u64) -> FoundRecord
+    requires { ⌜ Heap (now block) × FairTree tree × Rooted tree (now block) root ⌝ }
     ensures { λ r. ⌜ Shows tree (now (block .entry)) r (fromRoot tree (now (block .entry)) root key) ⌝ }
 {
     let record = heap::part_of(block, root);
     let item = le::field4(record, 4);
     if item == 0 {
-        return Found::Absent;
+        return FoundRecord::Absent;
     }
     let levels = le::byte_at(record, 3) as usize;
     let range = Range {

@@ -22,7 +22,7 @@ use Rattle.block.specs.declared.Checked.{Checked}
 use Rattle.block.specs.declared.Checked.the-variants as checked
 use Rattle.block.specs.Block.{checkedBlock, internal, blockBytes}
 use Rattle.node.specs.Content.{Content, bytes, absent, refused, countIn, numbersIn, noneInternal, shapeFits, Kids, all, fault, kidsOf, total, treeContent, blockContent, dataOf, nodeContent}
-use Rattle.node.specs.Named.{Listing, DataTreeSound, Hands, own, children, Named, nothing, something}
+use Rattle.node.specs.Named.{ListedAs, DataTreeSound, Hands, own, children, Named, nothing, something}
 use Rattle.node.proofs.Kids.{listing-of, of-listing}
 use Rattle.node.proofs.Outcomes.{shape-of, tree-shapeless, tree-fault, tree-other-sum, tree-bytes, block-tree, block-own, data-none, data-refused, data-block, node-found, node-absent, node-refused}
 

@@ -16,7 +16,7 @@ use Rattle.node.specs.declared.Measured.{Measured}
 use Rattle.node.specs.declared.Measured.the-variants as measured
 use Rattle.node.specs.Content.{Kids, all, fault, andKids, kidsOf, total}
 use Rattle.node.specs.Steps.{measuredIn, refusedIn, IsListed, AllListed, bytesIn, bytesAt}
-use Rattle.node.specs.Named.{Listing, none, one}
+use Rattle.node.specs.Named.{ListedAs, none, one}
 
 -- a sum to which so much is added; a refusal stays
 pub addTo : ℕ → Measured → Measured
@@ -65,7 +65,7 @@ and-kids (checked.Refused r) k P f g = f r
 
 -- what a list of children that are all there says
 pub Says : List ℕ → List ℕ → Kids → Type 0
-Says image ns (all bs) = Listing image ns bs
+Says image ns (all bs) = ListedAs image ns bs
 Says image ns (fault r) = Unit {0}
 
 says : (image ns : List ℕ) (k : Kids) → kidsOf image ns ≡ k → Says image ns k
@@ -75,16 +75,16 @@ says image (n ∷ ns) k e =
     subst (Says image (n ∷ ns)) e
     (and-kids (checkedBlock image n) (kidsOf image ns) (Says image (n ∷ ns)) (λ r. tt) (λ b bs q w. one q (says image ns (all bs) w)))
 
-pub listing-of : (image ns : List ℕ) (bs : List Listed) → kidsOf image ns ≡ all bs → Listing image ns bs
+pub listing-of : (image ns : List ℕ) (bs : List Listed) → kidsOf image ns ≡ all bs → ListedAs image ns bs
 unfolding Says
 listing-of image ns bs e = says image ns (all bs) e
 
-pub of-listing : (image ns : List ℕ) (bs : List Listed) → Listing image ns bs → kidsOf image ns ≡ all bs
+pub of-listing : (image ns : List ℕ) (bs : List Listed) → ListedAs image ns bs → kidsOf image ns ≡ all bs
 unfolding kidsOf andKids
 of-listing image [] [] none = refl
 of-listing image (n ∷ ns) (b ∷ bs) (one q l) = ap₂ andKids q (of-listing image ns bs l)
 
-pub all-listed : (image ns : List ℕ) (bs : List Listed) → Listing image ns bs → AllListed image ns
+pub all-listed : (image ns : List ℕ) (bs : List Listed) → ListedAs image ns bs → AllListed image ns
 all-listed image [] [] none = tt
 all-listed image (n ∷ ns) (b ∷ bs) (one q l) = (record { block = b; is = q }, all-listed image ns bs l)
 
@@ -93,12 +93,12 @@ pub bytes-here : (image : List ℕ) (n : ℕ) (b : Listed) → checkedBlock imag
 unfolding bytesAt bytesIn
 bytes-here image n b e = ap (bytesIn image) e
 
-pub joined-blocks : (image ns : List ℕ) (bs : List Listed) → Listing image ns bs → joined (bytesAt image) ns ≡ joined (blockBytes image) bs
+pub joined-blocks : (image ns : List ℕ) (bs : List Listed) → ListedAs image ns bs → joined (bytesAt image) ns ≡ joined (blockBytes image) bs
 unfolding joined
 joined-blocks image [] [] none = refl
 joined-blocks image (n ∷ ns) (b ∷ bs) (one q l) = ap₂ _++_ (bytes-here image n b q) (joined-blocks image ns bs l)
 
-pub joined-length : (image ns : List ℕ) (bs : List Listed) → Listing image ns bs → length (joined (blockBytes image) bs) ≡ total bs
+pub joined-length : (image ns : List ℕ) (bs : List Listed) → ListedAs image ns bs → length (joined (blockBytes image) bs) ≡ total bs
 unfolding joined total
 joined-length image [] [] none = refl
 joined-length image (n ∷ ns) (b ∷ bs) (one q l) =

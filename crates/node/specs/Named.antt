@@ -16,9 +16,9 @@ use Rattle.block.specs.Block.{checkedBlock, internal, blockBytes}
 use Rattle.node.specs.Content.{countIn, numbersIn, total}
 
 -- each number is listed in the block tree, as the block beside it, which passes its tests
-pub data Listing (image : List ℕ) : List ℕ → List Listed → Type 0 where
-  none : Listing image [] []
-  one : {n : ℕ} {ns : List ℕ} {b : Listed} {bs : List Listed} → checkedBlock image n ≡ Block b → Listing image ns bs → Listing image (n ∷ ns) (b ∷ bs)
+pub data ListedAs (image : List ℕ) : List ℕ → List Listed → Type 0 where
+  none : ListedAs image [] []
+  one : {n : ℕ} {ns : List ℕ} {b : Listed} {bs : List Listed} → checkedBlock image n ≡ Block b → ListedAs image ns bs → ListedAs image (n ∷ ns) (b ∷ bs)
 
 -- the rules of a data tree with the root bytes g and the children bs, as a plain conjunction
 pub record DataTreeSound (image g : List ℕ) (bs : List Listed) : Type 0 where
@@ -26,7 +26,7 @@ pub record DataTreeSound (image g : List ℕ) (bs : List Listed) : Type 0 where
   pub count : (1 ≤ countIn g) × (countIn g ≤ 1021)
   pub size : length g ≡ 8 + 8 * countIn g
   pub outer : All (λ n. internal n ≡ false) (numbersIn g)
-  pub listed : Listing image (numbersIn g) bs
+  pub listed : ListedAs image (numbersIn g) bs
   pub sum : total bs ≡ field g 4 4
 
 -- what a listed data block b, which has passed its tests, hands out: its own bytes decoded, or those of its children in order

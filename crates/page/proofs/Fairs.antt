@@ -2,9 +2,9 @@
 use mathlib.Core.Path.{refl}
 use mathlib.Core.Logic.{inl, inr}
 use native.Mathlib.Omega.{arith}
-use Rattle.page.specs.Layout.{nbt, bbt, Fair}
+use Rattle.page.specs.Layout.{nbt, bbt, FairLayout}
 
-pub fair-nbt : Fair nbt
+pub fair-nbt : FairLayout nbt
 unfolding nbt
 fair-nbt =
     record {
@@ -28,7 +28,7 @@ fair-nbt =
       fourth = omega arith;
     }
 
-pub fair-bbt : Fair bbt
+pub fair-bbt : FairLayout bbt
 unfolding bbt
 fair-bbt =
     record {

@@ -18,7 +18,7 @@ use Rattle.refusal.specs.Order.{_at_, Rule, inOrder, AllHold, none, both}
 use Rattle.refusal.proofs.OrderLaws.{test-goes, test-ends, accepted-exactly}
 use Rattle.keys.specs.declared.Shape.{Shape}
 use Rattle.keys.specs.declared.Order.the-variants.{Climbing}
-use Rattle.keys.specs.Records.{keyOf, records, keysOf, Holds}
+use Rattle.keys.specs.Records.{keyOf, records, keysOf, RecordsIn}
 use Rattle.keys.specs.Range.{ordered}
 use Rattle.keys.proofs.Climbs.{climbing-is}
 use Rattle.header.specs.Header.{fileEnd}
@@ -27,7 +27,7 @@ use Rattle.page.specs.declared.Layout.{Layout}
 use Rattle.page.specs.declared.Level.{Level}
 use Rattle.page.specs.declared.Level.the-variants.{AtRoot, Exactly}
 use Rattle.page.specs.declared.Link.{Link}
-use Rattle.page.specs.Layout.{compared, entrySize, mostRoom, shape, Fair}
+use Rattle.page.specs.Layout.{compared, entrySize, mostRoom, shape, FairLayout}
 use Rattle.page.specs.Page.{page, countOf, roomOf, sizeOf, levelOf, entries, keyIn, offsetFits, kindFits, numberFits, checksumFits, levelFits, mayBeEmpty, countsFit, keysFit, bytesRules, pageRules, pageFits}
 
 -- what is compared of a key sought
@@ -35,7 +35,7 @@ pub compared-whole : (L : Layout) (key : ℕ) → L .sought ≡ 8 → key < 1844
 unfolding compared
 compared-whole L key e h = rw e (sym (mod-eq-of-lt h))
 
-pub compared-low : (L : Layout) (key : ℕ) → (L .sought ≡ 8 → ⊥) → Fair L → key % 4294967296 ≡ compared L key
+pub compared-low : (L : Layout) (key : ℕ) → (L .sought ≡ 8 → ⊥) → FairLayout L → key % 4294967296 ≡ compared L key
 unfolding compared
 compared-low L key n fair = ⊎-elim (λ (e : L .sought ≡ 4). rw e) (λ (e : L .sought ≡ 8). absurd (n e)) (fair .sought)
 
@@ -99,12 +99,12 @@ counts-of L p g e =
     record { level = w .0; size = eqb-true _ _ (w .1); room = leb-true _ _ (z .1); count = leb-true _ _ (y .1); some = x .1 }
 
 -- the entries of a page whose counts fit lie in the page
-sized : (L : Layout) → Fair L → (l : ℕ) → (mostRoom L l * entrySize L l ≤ 512) × (L .word * 3 ≤ entrySize L l) × (mostRoom L l ≤ 255)
+sized : (L : Layout) → FairLayout L → (l : ℕ) → (mostRoom L l * entrySize L l ≤ 512) × (L .word * 3 ≤ entrySize L l) × (mostRoom L l ≤ 255)
 unfolding mostRoom entrySize
 sized L f zero = (f .leafroom, f .leafsize, f .fewleaf)
 sized L f (suc l) = (f .indexroom, f .indexsize, f .fewindex)
 
-module _ (L : Layout) (p : Link) (g : List ℕ) (fair : Fair L) (ok : countsFit L p g ≡ true) where
+module _ (L : Layout) (p : Link) (g : List ℕ) (fair : FairLayout L) (ok : countsFit L p g ≡ true) where
   few-enough : countOf L g ≤ mostRoom L (levelOf L g)
   few-enough = let c = counts-of L p g ok in le-trans (c .count) (c .room)
 
@@ -114,7 +114,7 @@ module _ (L : Layout) (p : Link) (g : List ℕ) (fair : Fair L) (ok : countsFit 
   pub words-inside : L .word * 3 ≤ entrySize L (levelOf L g)
   words-inside = sized L fair (levelOf L g) .1
 
-  pub entries-held : length g ≡ 512 → Holds (shape L (levelOf L g)) (countOf L g) g
+  pub entries-held : length g ≡ 512 → RecordsIn (shape L (levelOf L g)) (countOf L g) g
   unfolding shape
   entries-held h =
       record {

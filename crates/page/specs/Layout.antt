@@ -79,7 +79,7 @@ pub record Within (c : Column) (size : ℕ) : Type 0 where
   pub word : c .width ≤ 8
 
 -- what every layout of a known edition has: its places lie in a page, its numbers in a machine word
-pub record Fair (L : Layout) : Type 0 where
+pub record FairLayout (L : Layout) : Type 0 where
   pub word : L .word ≤ 8
   pub key : L .key ≤ L .word
   pub sought : (L .sought ≡ 4) ⊎ (L .sought ≡ 8)

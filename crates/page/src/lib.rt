@@ -12,7 +12,7 @@ ghost use lib.Dec.{leb};
 ghost use lib.ListN.{length};
 ghost use Rattle.le.specs.Bytes.{byte};
 ghost use Rattle.refusal.specs.Order.{inOrder};
-ghost use Rattle.page.specs.Layout.{nbt, bbt, Fair, compared as comparedOf, entrySize, mostRoom, shape};
+ghost use Rattle.page.specs.Layout.{nbt, bbt, FairLayout, compared as comparedOf, entrySize, mostRoom, shape};
 ghost use Rattle.page.specs.Page.{signature as signatureOf, offsetFits, kindFits, numberFits, checksumFits, levelFits, mayBeEmpty, countsFit, keysFit, bytesRules, pageFits};
 
 // The bytes of an entry that hold one of its numbers.
@@ -128,7 +128,7 @@ pub fn blocks() -> Layout
 
 // What is compared of a key sought.
 pub fn compared(l: Layout, key: u64) -> u64
-    requires { ⌜ Fair l ⌝ }
+    requires { ⌜ FairLayout l ⌝ }
     ensures { λ r. ⌜ r ≡ comparedOf l key ⌝ }
 {
     if l.sought == 8 {
@@ -171,7 +171,7 @@ pub fn offset_fits(image: &[u8], offset: u64) -> bool
 
 // Test 7.
 fn kind_fits(l: Layout, page: &[u8]) -> bool
-    requires { ⌜ Fair l × (length (now page) ≡ 512) ⌝ }
+    requires { ⌜ FairLayout l × (length (now page) ≡ 512) ⌝ }
     ensures { λ r. ⌜ r ≡ kindFits l (now (page .entry)) ⌝ }
 {
     let place = l.trailer;
@@ -181,7 +181,7 @@ fn kind_fits(l: Layout, page: &[u8]) -> bool
 
 // Test 8.
 fn number_fits(l: Layout, p: Link, page: &[u8]) -> bool
-    requires { ⌜ Fair l × (length (now page) ≡ 512) ⌝ }
+    requires { ⌜ FairLayout l × (length (now page) ≡ 512) ⌝ }
     ensures { λ r. ⌜ r ≡ numberFits l p (now (page .entry)) ⌝ }
 {
     let number = p.number;
@@ -191,7 +191,7 @@ fn number_fits(l: Layout, p: Link, page: &[u8]) -> bool
 
 // Test 9.
 fn checksum_fits(l: Layout, page: &[u8]) -> bool
-    requires { ⌜ Fair l × (length (now page) ≡ 512) ⌝ }
+    requires { ⌜ FairLayout l × (length (now page) ≡ 512) ⌝ }
     ensures { λ r. ⌜ r ≡ checksumFits l (now (page .entry)) ⌝ }
 {
     let end = l.trailer;
@@ -238,7 +238,7 @@ pub fn shape_of(l: Layout, level: usize) -> Shape
 
 // Test 10.
 fn counts_fit(l: Layout, p: Link, page: &[u8]) -> bool
-    requires { ⌜ Fair l × (length (now page) ≡ 512) ⌝ }
+    requires { ⌜ FairLayout l × (length (now page) ≡ 512) ⌝ }
     ensures { λ r. ⌜ r ≡ countsFit l p (now (page .entry)) ⌝ }
 {
     let place = l.counts;
@@ -256,7 +256,7 @@ fn counts_fit(l: Layout, p: Link, page: &[u8]) -> bool
 
 // Test 11.
 fn keys_fit(l: Layout, p: Link, page: &[u8]) -> bool
-    requires { ⌜ Fair l × (length (now page) ≡ 512) × (countsFit l p (now page) ≡ true) ⌝ }
+    requires { ⌜ FairLayout l × (length (now page) ≡ 512) × (countsFit l p (now page) ≡ true) ⌝ }
     ensures { λ r. ⌜ r ≡ keysFit l p (now (page .entry)) ⌝ }
 {
     let place = l.counts;
@@ -269,7 +269,7 @@ fn keys_fit(l: Layout, p: Link, page: &[u8]) -> bool
 
 // Tests 7 to 11, of a page's bytes.
 fn check_bytes(l: Layout, p: Link, page: &[u8]) -> Verdict
-    requires { ⌜ Fair l × (length (now page) ≡ 512) ⌝ }
+    requires { ⌜ FairLayout l × (length (now page) ≡ 512) ⌝ }
     ensures { λ r. ⌜ r ≡ inOrder (bytesRules l p (now (page .entry))) ⌝ }
 {
     let offset = p.offset;
@@ -293,7 +293,7 @@ fn check_bytes(l: Layout, p: Link, page: &[u8]) -> Verdict
 
 // The page check: test 6, and the others of the part of the image from the offset for 512 bytes.
 pub fn check_page(image: &[u8], l: Layout, p: Link) -> Verdict
-    requires { ⌜ Fair l ⌝ }
+    requires { ⌜ FairLayout l ⌝ }
     ensures { λ r. ⌜ r ≡ pageFits l (now (image .entry)) p ⌝ }
 {
     let offset = p.offset;

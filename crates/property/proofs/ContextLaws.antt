@@ -17,7 +17,7 @@ use Rattle.heaptree.specs.Lookup.{fromRoot}
 use Rattle.heaptree.proofs.RootLaws.{root-exactly}
 use Rattle.property.specs.declared.Property.the-variants as answers
 use Rattle.property.specs.Context.{properties, contextRules, contextTest, Context}
-use Rattle.property.specs.Descent.{said, property}
+use Rattle.property.specs.Lookup.{propertyFrom, property}
 
 module _ (block : List ℕ) where
   -- the client kind first, then the root record of the tree
@@ -67,6 +67,6 @@ module _ (block : List ℕ) where
   unfolding property
   property-refused id r e = ends answers.Refused _ _ r e
 
-  pub property-on : (id : ℕ) → contextTest block ≡ Accepted → property block id ≡ said block (fromRoot properties block (userRoot block) id)
+  pub property-on : (id : ℕ) → contextTest block ≡ Accepted → property block id ≡ propertyFrom block (fromRoot properties block (userRoot block) id)
   unfolding property
   property-on id e = goes answers.Refused _ _ e

@@ -17,16 +17,16 @@ use Rattle.keys.specs.Search.{withKey}
 use Rattle.keys.proofs.FoundLaws.{missing-exactly}
 use Rattle.search.specs.Answer.{answer}
 use Rattle.heap.specs.Shape.{userRoot}
-use Rattle.heap.specs.Items.{numberFits, badItem}
-use Rattle.heaptree.specs.Lookup.{read}
-use Rattle.heaptree.specs.Scan.{AsScanned as TreeScanned}
+use Rattle.heap.specs.Items.{itemFits, badItem}
+use Rattle.heaptree.specs.Lookup.{byCase}
+use Rattle.heaptree.specs.Scan.{TreeAsScanned}
 use Rattle.heaptree.proofs.ShownLaws.{read-says}
 use Rattle.heaptree.proofs.ScanLaws.{scan-holds as tree-holds}
 use Rattle.property.specs.declared.Property.{Property}
 use Rattle.property.specs.declared.Property.the-variants.{Number, Empty, Item, Subnode, Absent, Refused}
 use Rattle.property.specs.Context.{properties}
-use Rattle.property.specs.Descent.{inPlace, valueOf, said, property}
-use Rattle.property.specs.Scan.{SoundContext, idOf, leafRecords, WrongValue, ScanHolds}
+use Rattle.property.specs.Lookup.{inPlace, valueOf, propertyFrom, property}
+use Rattle.property.specs.Scan.{PropertiesSound, idOf, propertyRecords, WrongValue, PropertyScanHolds}
 use Rattle.property.proofs.ContextLaws.{context-exactly, property-on}
 
 -- a leaf record is never answered absent, and refused only where its value names no item
@@ -59,42 +59,42 @@ module _ (type value : ℕ) where
       (refl, refl, cc)
 
 module _ (block : List ℕ) where
-  answer-there : (o : Option (List ℕ)) (n : ℕ) → said block (answer o n) ≡ Absent → o ≡ none
-  unfolding answer read valueOf
+  answer-there : (o : Option (List ℕ)) (n : ℕ) → propertyFrom block (answer o n) ≡ Absent → o ≡ none
+  unfolding answer byCase valueOf
   answer-there none n e = refl
   answer-there (some entry) n e =
-      absurd (outcome-there (field entry 2 2) (field entry 4 4) (inPlace (field entry 2 2)) (eqb (field entry 4 4) 0) (eqb (field entry 4 4 % 32) 0) (numberFits block (field entry 4 4)) e)
+      absurd (outcome-there (field entry 2 2) (field entry 4 4) (inPlace (field entry 2 2)) (eqb (field entry 4 4) 0) (eqb (field entry 4 4 % 32) 0) (itemFits block (field entry 4 4)) e)
 
-  answer-refused : (id : ℕ) (r : Refusal) (o : Option (List ℕ)) (n : ℕ) → withKey idOf id (leafRecords block) ≡ o → said block (answer o n) ≡ Refused r → WrongValue block id r
-  unfolding answer read valueOf
+  answer-refused : (id : ℕ) (r : Refusal) (o : Option (List ℕ)) (n : ℕ) → withKey idOf id (propertyRecords block) ≡ o → propertyFrom block (answer o n) ≡ Refused r → WrongValue block id r
+  unfolding answer byCase valueOf
   answer-refused id r none n f e = let clash : _≡_ {A = ℕ} 0 1 = cc in absurd (omega arith)
   answer-refused id r (some entry) n f e =
-      let wrong = outcome-refused (field entry 2 2) (field entry 4 4) (inPlace (field entry 2 2)) (eqb (field entry 4 4) 0) (eqb (field entry 4 4 % 32) 0) (numberFits block (field entry 4 4)) r e in
+      let wrong = outcome-refused (field entry 2 2) (field entry 4 4) (inPlace (field entry 2 2)) (eqb (field entry 4 4) 0) (eqb (field entry 4 4 % 32) 0) (itemFits block (field entry 4 4)) r e in
       record { entry = entry; found = f; names = eqb-true _ _ (wrong .0); wrong = wrong .1; number = wrong .2 }
 
 -- the tree's theorem, read as properties
-module _ (block : List ℕ) (sound : SoundContext block) where
-  tree : TreeScanned properties block (userRoot block)
+module _ (block : List ℕ) (sound : PropertiesSound block) where
+  tree : TreeAsScanned properties block (userRoot block)
   tree = tree-holds properties block (userRoot block) (sound .tree)
 
-  scan-answers : (id : ℕ) → property block id ≡ said block (answer (withKey idOf id (leafRecords block)) 0)
+  scan-answers : (id : ℕ) → property block id ≡ propertyFrom block (answer (withKey idOf id (propertyRecords block)) 0)
   scan-answers id =
       property-on block id (context-exactly block .1 (sound .heap, record { kind = sound .kind; root = sound .tree .record-fits }))
       ∙ read-says _ _ _ _ _ (tree .answers id)
 
-  scan-absent : (id : ℕ) → (property block id ≡ Absent) ↔ Missing id (map idOf (leafRecords block))
-  unfolding answer read
+  scan-absent : (id : ℕ) → (property block id ≡ Absent) ↔ Missing id (map idOf (propertyRecords block))
+  unfolding answer byCase
   scan-absent id = (
-    (λ e. missing-exactly idOf id (leafRecords block) .0 (answer-there block (withKey idOf id (leafRecords block)) 0 (sym (scan-answers id) ∙ e))),
-    (λ m. scan-answers id ∙ ap (λ o. said block (answer o 0)) (missing-exactly idOf id (leafRecords block) .1 m)),
+    (λ e. missing-exactly idOf id (propertyRecords block) .0 (answer-there block (withKey idOf id (propertyRecords block)) 0 (sym (scan-answers id) ∙ e))),
+    (λ m. scan-answers id ∙ ap (λ o. propertyFrom block (answer o 0)) (missing-exactly idOf id (propertyRecords block) .1 m)),
   )
 
 -- the theorem: a lookup in a sound tree answers as the plain scan does
-pub scan-holds : ScanHolds
+pub scan-holds : PropertyScanHolds
 scan-holds block sound =
     record {
       answers = scan-answers block sound;
       ascending = tree block sound .ascending;
       absent-iff = scan-absent block sound;
-      refused = λ id r e. answer-refused block id r (withKey idOf id (leafRecords block)) 0 refl (sym (scan-answers block sound id) ∙ e);
+      refused = λ id r e. answer-refused block id r (withKey idOf id (propertyRecords block)) 0 refl (sym (scan-answers block sound id) ∙ e);
     }

@@ -7,11 +7,11 @@ use Rattle.refusal.specs.declared.Verdict.{Verdict}
 use Rattle.refusal.specs.declared.Fault.the-variants.{PropertyTree}
 use Rattle.refusal.specs.Order.{_at_, Rule, rule, inOrder}
 use Rattle.heap.specs.Shape.{clientKind, userRoot, shapeRules}
-use Rattle.heaptree.specs.declared.Tree.{Tree}
+use Rattle.heaptree.specs.declared.HeapTree.{HeapTree}
 use Rattle.heaptree.specs.Root.{rootRules, Rooted}
 
 -- "key size 2, entry size 6"; "everything else wrong on the path is 20". "Leaf record: id 2, type 2, value 4. Index record: id 2, item 4."
-abbrev pub properties : Tree
+abbrev pub properties : HeapTree
 properties = record { key = 2; entry = 6; fault = PropertyTree }
 
 -- "client kind BC hex, else 20"; then the user root's number, 19, and its record, 20

@@ -1,3 +1,3 @@
 pub mod Context
-pub mod Descent
+pub mod Lookup
 pub mod Scan

@@ -1,6 +1,6 @@
 // The properties that a heap holds, looked up by their id in a tree of heap items.
-use heaptree::Found;
-use heaptree::Tree;
+use heaptree::FoundRecord;
+use heaptree::HeapTree;
 use refusal::Fault;
 use refusal::Refusal;
 use refusal::Verdict;
@@ -9,7 +9,7 @@ ghost use Rattle.refusal.specs.Order.{inOrder};
 ghost use Rattle.heap.specs.Shape.{userRoot, Heap};
 ghost use Rattle.heaptree.specs.Lookup.{fromRoot};
 ghost use Rattle.property.specs.Context.{properties, contextRules, contextTest, Context};
-ghost use Rattle.property.specs.Descent.{inPlace, valueOf, said, property};
+ghost use Rattle.property.specs.Lookup.{inPlace, valueOf, propertyFrom, property};
 
 // A property's type, with its number in place, nothing, or the number of the item or subnode that holds its value.
 pub enum Property {
@@ -22,10 +22,10 @@ pub enum Property {
 }
 
 // The property tree: its keys are ids, its entries a type and a value.
-fn properties() -> Tree
+fn properties() -> HeapTree
     ensures { λ r. ⌜ r ≡ properties ⌝ }
 {
-    Tree {
+    HeapTree {
         key: 2,
         entry: 6,
         fault: Fault::PropertyTree,
@@ -74,7 +74,7 @@ fn value_of(block: &[u8], code: u16, value: u32) -> Property
     if value % 32 != 0 {
         return Property::Subnode(code, value);
     }
-    if !heap::number_fits(block, value) {
+    if !heap::item_fits(block, value) {
         return Property::Refused(Refusal {
             fault: Fault::HeapItem,
             place: 0,
@@ -87,17 +87,17 @@ fn value_of(block: &[u8], code: u16, value: u32) -> Property
 // What the leaf record with the id says, in an accepted property context.
 fn find_in_context(block: &[u8], id: u16) -> Property
     requires { ⌜ Heap (now block) × Context (now block) ⌝ }
-    ensures { λ r. ⌜ r ≡ said (now (block .entry)) (fromRoot properties (now (block .entry)) (userRoot (now (block .entry))) id) ⌝ }
+    ensures { λ r. ⌜ r ≡ propertyFrom (now (block .entry)) (fromRoot properties (now (block .entry)) (userRoot (now (block .entry))) id) ⌝ }
 {
     let found = heaptree::find_from(block, properties(), heap::user_root(block), id as u64);
     match found {
-        Found::At(place) => value_of(
+        FoundRecord::At(place) => value_of(
             block,
             le::field2(block, place + 2),
             le::field4(block, place + 4),
         ),
-        Found::Absent => Property::Absent,
-        Found::Refused(refusal) => Property::Refused(refusal),
+        FoundRecord::Absent => Property::Absent,
+        FoundRecord::Refused(refusal) => Property::Refused(refusal),
     }
 }
 

@@ -19,7 +19,7 @@ use Rattle.tree.specs.Tree.{treeFits, scan}
 use Rattle.search.specs.Answer.{Answer, answer}
 use Rattle.tree.specs.Lookup.{path}
 use Rattle.tree.specs.Answers.{shown, asNode, asBlock, nodeOf, blockOf, nextNodeOf, nextBlockOf}
-use Rattle.tree.specs.Listed.{Lists}
+use Rattle.tree.specs.Listing.{TreeLists}
 use Rattle.tree.proofs.Demand3.{demand3}
 use Rattle.tree.proofs.Listing.{listing, lists}
 use Rattle.pst.specs.Meaning.{Meaning, refuses, answered, verdictMeans, nodeMeans, blockMeans}
@@ -71,11 +71,11 @@ next-block-as-scanned image e from =
     record { pages = s .count; is = ap blockSays (s .is) }
 
 -- going from 0 lists all nodes, and all blocks
-pub lists-nodes : (image : List ℕ) → Bytes image → nodesOutcome image ≡ answered [] → Lists nbt image 0 (scan nbt image)
+pub lists-nodes : (image : List ℕ) → Bytes image → nodesOutcome image ≡ answered [] → TreeLists nbt image 0 (scan nbt image)
 unfolding nodesOutcome nbt
 lists-nodes image bytes e = lists nbt image (le-refl 4) bytes (fits nbt image e)
 
-pub lists-blocks : (image : List ℕ) → Bytes image → blocksOutcome image ≡ answered [] → Lists bbt image 0 (scan bbt image)
+pub lists-blocks : (image : List ℕ) → Bytes image → blocksOutcome image ≡ answered [] → TreeLists bbt image 0 (scan bbt image)
 unfolding blocksOutcome bbt
 lists-blocks image bytes e = lists bbt image (le-refl 8) bytes (fits bbt image e)
 

@@ -10,7 +10,7 @@ use Rattle.refusal.specs.Order.{demand}
 use Rattle.crc.specs.Checksum.{checksum, checksumFrom, bits, bit}
 use Rattle.page.specs.Page.{signature}
 use Rattle.block.specs.Block.{room, roomFor, trailer64}
-use Rattle.heap.specs.Items.{kindOf, indexOf, blockOf, numberFits, badItem}
+use Rattle.heap.specs.Items.{itemKind, itemIndex, itemBlock, itemFits, badItem}
 
 -- what a rule gives, beside what document 01 says that it gives
 record Case : Type 0 where
@@ -40,9 +40,9 @@ cases block same =
     ∷ case (checksum (0x00 ∷ [])) 0
     ∷ case (checksum (0x01 ∷ [])) 0x77073096
     ∷ case (checksum (0x80 ∷ [])) 0xEDB88320
-    ∷ case (indexOf 0x20) 1
-    ∷ case (indexOf 0xFFE0) 2047
-    ∷ case (refusedWith (demand (numberFits block 0) badItem)) 19
+    ∷ case (itemIndex 0x20) 1
+    ∷ case (itemIndex 0xFFE0) 2047
+    ∷ case (refusedWith (demand (itemFits block 0) badItem)) 19
     ∷ []
 
 given : List Case → List ℕ
@@ -59,7 +59,7 @@ unfolding signature
 signs-nothing same = ap (λ (x : ℕ). bitXor (x % 65536) (x / 65536 % 65536)) (xor-self same)
 
 marked : (block : List ℕ) (same : ℕ) → given (cases block same) ≡ wanted (cases block same)
-unfolding given wanted cases case room roomFor trailer64 checksum checksumFrom bits bit signature indexOf refusedWith demand numberFits kindOf blockOf
+unfolding given wanted cases case room roomFor trailer64 checksum checksumFrom bits bit signature itemIndex refusedWith demand itemFits itemKind itemBlock
 marked block same =
     ap
     (λ (x : ℕ). 64 ∷ 64 ∷ 128 ∷ 4160 ∷ 8192 ∷ 0x9F88 ∷ x ∷ 0 ∷ 0 ∷ 0 ∷ 0x77073096 ∷ 0xEDB88320 ∷ 1 ∷ 2047 ∷ 19 ∷ [])

@@ -13,7 +13,7 @@ use Rattle.block.specs.Block.{room, testOf, readOf, filledOf}
 use Rattle.node.specs.Content.{nodeContent, answerTo, filledBy}
 use Rattle.heap.specs.Shape.{heapTest}
 use Rattle.heap.specs.Items.{itemTest, itemOr, itemSpan}
-use Rattle.property.specs.Descent.{property}
+use Rattle.property.specs.Lookup.{property}
 use Rattle.pst.specs.Meaning.{Meaning, verdictMeans, headerMeans, nodeMeans, blockMeans, sizedMeans, dataMeans, spanMeans, propertyMeans}
 
 unfoldable pub headerOutcome : List ℕ → Meaning

@@ -22,7 +22,7 @@ ghost use Rattle.block.specs.Block.{room, testOf, readOf, filledOf};
 ghost use Rattle.node.specs.Content.{nodeContent, answerTo, filledBy};
 ghost use Rattle.heap.specs.Shape.{heapTest};
 ghost use Rattle.heap.specs.Items.{itemTest, itemSpan};
-ghost use Rattle.property.specs.Descent.{property as propertyIn};
+ghost use Rattle.property.specs.Lookup.{property as propertyIn};
 ghost use Rattle.rkw.specs.Answers.{verdictAnswer, headerAnswer, nodeAnswer, blockAnswer, sizeAnswer, lengthAnswer, dataAnswer, itemAnswer, propertyAnswer, noNode, noBlock, valuedOf, noProperty};
 
 #[repr(C)]

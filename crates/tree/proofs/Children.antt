@@ -15,22 +15,22 @@ use Rattle.keys.specs.declared.End.{End}
 use Rattle.keys.specs.declared.Seat.the-variants.{At, Nowhere}
 use Rattle.keys.specs.declared.Sought.{Sought}
 use Rattle.keys.specs.declared.Sought.the-variants.{AtLeast}
-use Rattle.keys.specs.Records.{keyOf, keysOf, recordAt, keyAt, Holds}
+use Rattle.keys.specs.Records.{keyOf, keysOf, recordAt, keyAt, RecordsIn, recordsFrom}
 use Rattle.keys.specs.Search.{lastAtMost, firstThat, scanned, start}
-use Rattle.keys.proofs.RecordLaws.{recordsFrom, records-length, record-inside, field-at}
+use Rattle.keys.proofs.RecordLaws.{records-length, record-inside, field-at}
 use Rattle.keys.proofs.FoundLaws.{found-inside, chosen-inside}
 use Rattle.keys.proofs.SeatLaws.{start-below}
-use Rattle.search.specs.Tree.{endOf, children}
-use Rattle.search.specs.Descent.{turns, picked}
+use Rattle.search.specs.SearchTree.{endOf, children}
+use Rattle.search.specs.Descent.{fromSeat, picked}
 use Rattle.search.proofs.Records.{childAt, childrenFrom, entry-none, entry-some, children-all, children-at, children-none, children-drop, seat-is, chosen-none, chosen-some}
 use Rattle.page.specs.declared.Layout.{Layout}
 use Rattle.page.specs.declared.Level.the-variants.{Exactly}
 use Rattle.page.specs.declared.Link.{Link}
-use Rattle.page.specs.Layout.{entrySize, shape, Fair}
+use Rattle.page.specs.Layout.{entrySize, shape, FairLayout}
 use Rattle.page.specs.Page.{page, countOf, levelOf, entries, keyIn, countsFit}
 use Rattle.page.proofs.PageLaws.{keys-of-entries, entries-held, words-inside, few}
 use Rattle.tree.specs.declared.Next.the-variants.{Here, NoMore}
-use Rattle.tree.specs.Tree.{linkOf, treeOf}
+use Rattle.tree.specs.Tree.{linkOf, pageTree}
 use Rattle.tree.specs.Answers.{kidsFrom, chosenOf, nextOf}
 
 -- a key of the page's width is the key of the entry
@@ -49,9 +49,9 @@ link-is L s n g to i level number offset from end h en eo ef ee =
     rw (en, eo, ef, ee, p, field-at s g i (L .word) (L .word) (omega arith), field-at s g i (L .word + L .word) (L .word) (omega arith))
 
 -- what reading the child of the i-th entry asks, of a page whose counts fit
-pub link-ready : (L : Layout) (p : Link) (g : List ℕ) → Fair L → length g ≡ 512 → countsFit L p g ≡ true
+pub link-ready : (L : Layout) (p : Link) (g : List ℕ) → FairLayout L → length g ≡ 512 → countsFit L p g ≡ true
     → (s : Shape) (n i : ℕ) → s ≡ shape L (levelOf L g) → n ≡ countOf L g → i < n
-    → Holds s n g × (s .width ≡ L .key) × (L .word * 3 ≤ s .size) × (L .word ≤ 8) × (i < n) × (n ≤ 255)
+    → RecordsIn s n g × (s .width ≡ L .key) × (L .word * 3 ≤ s .size) × (L .word ≤ 8) × (i < n) × (n ≤ 255)
 unfolding shape
 link-ready L p g fair h ok s n i es en l =
     let w = words-inside L p g fair ok in
@@ -147,27 +147,27 @@ module _ (L : Layout) (image : List ℕ) (l : ℕ) (p : Link) where
   unfolding kidsFrom
   more i c e = more-from L g l (p .range .to) i c e
 
-  pub all-kids : kidsFrom L image l p 0 ≡ children (treeOf L image) l p
+  pub all-kids : kidsFrom L image l p 0 ≡ children (pageTree L image) l p
   unfolding kidsFrom children entries
   all-kids = children-all (keyIn L) (shape L (levelOf L g)) (keyed L g) (countOf L g) g (p .range .to) (linkOf L l)
 
-  pub chosen-is : (k : ℕ) → chosenOf L l (p .range .to) k g ≡ picked (treeOf L image) Sought.Equal k (children (treeOf L image) l p)
+  pub chosen-is : (k : ℕ) → chosenOf L l (p .range .to) k g ≡ picked (pageTree L image) Sought.Equal k (children (pageTree L image) l p)
   unfolding chosenOf children
   chosen-is k = refl
 
   -- those from the start of a listing on
   pub starting-from : (k i : ℕ) → i ≡ start (lastAtMost k (map (keyIn L) (entries L g)))
-      → kidsFrom L image l p i ≡ picked (treeOf L image) AtLeast k (children (treeOf L image) l p)
-  unfolding turns kidsFrom children entries
+      → kidsFrom L image l p i ≡ picked (pageTree L image) AtLeast k (children (pageTree L image) l p)
+  unfolding fromSeat kidsFrom children entries
   starting-from k i e =
       let inside = start-inside L g k in
       sym (children-drop (keyIn L) (shape L (levelOf L g)) (keyed L g) (countOf L g) g (p .range .to) (linkOf L l) i (omega arith))
-      ∙ ap (λ (j : ℕ). drop j (children (treeOf L image) l p))
+      ∙ ap (λ (j : ℕ). drop j (children (pageTree L image) l p))
       (e ∙ ap start (ap (lastAtMost k) (sym (keys-of-entries L g))
       ∙ sym (seat-is (keyIn L) (shape L (levelOf L g)) (keyed L g) (countOf L g) g (p .range .to) (linkOf L l) (λ (c : Link). c .range) (ranged L l) k)))
 
 -- an entry of a leaf page
-module _ (L : Layout) (p : Link) (g : List ℕ) (fair : Fair L) (h : length g ≡ 512) (ok : countsFit L p g ≡ true) (leaf : levelOf L g ≡ 0) where
+module _ (L : Layout) (p : Link) (g : List ℕ) (fair : FairLayout L) (h : length g ≡ 512) (ok : countsFit L p g ≡ true) (leaf : levelOf L g ≡ 0) where
   leaf-size : (shape L (levelOf L g)) .size ≡ L .leafsize
   unfolding shape entrySize
   leaf-size = rw leaf

@@ -10,39 +10,39 @@ use Rattle.refusal.proofs.OrderLaws.{goes, then-left, then-right}
 use Rattle.keys.specs.Plain.{Missing}
 use Rattle.keys.specs.Search.{withKey}
 use Rattle.keys.specs.declared.Sought.{Sought}
-use Rattle.search.specs.Tree.{under}
+use Rattle.search.specs.SearchTree.{checkUnder}
 use Rattle.search.specs.Answer.{absent, answer, refused}
-use Rattle.search.specs.Descent.{descend, path as pathIn}
-use Rattle.search.specs.Holds.{AsScanned}
+use Rattle.search.specs.Descent.{descend, pathUnder}
+use Rattle.search.specs.Promises.{AsScanned}
 use Rattle.search.proofs.Searched.{as-scanned, path-short}
 use Rattle.search.proofs.Routes.{one-route}
 use Rattle.header.specs.Header.{headerFits}
 use Rattle.page.specs.declared.Layout.{Layout}
 use Rattle.page.specs.Layout.{compared}
 use Rattle.page.specs.Page.{keyIn}
-use Rattle.tree.specs.Tree.{root, rootLevel, treeOf, treeFits, scan, allRoutes}
-use Rattle.tree.specs.Lookup.{sought, lookup, path}
+use Rattle.tree.specs.Tree.{root, rootLevel, pageTree, treeFits, scan, allRoutes}
+use Rattle.tree.specs.Lookup.{searched, lookup, path}
 use Rattle.tree.specs.Demand3.{Demand3, Demand3Holds}
 use Rattle.tree.proofs.Walk.{tree-parts}
 use Rattle.tree.proofs.Searched.{sorted, filled, placed}
 
 module _ (L : Layout) (image : List ℕ) (ok : treeFits L image ≡ Accepted) where
-  both : (headerFits image then under (treeOf L image) (rootLevel L image) (root L image)) ≡ Accepted
+  both : (headerFits image then checkUnder (pageTree L image) (rootLevel L image) (root L image)) ≡ Accepted
   both = sym (tree-parts L image) ∙ ok
 
-  pub tree : under (treeOf L image) (rootLevel L image) (root L image) ≡ Accepted
+  pub tree : checkUnder (pageTree L image) (rootLevel L image) (root L image) ≡ Accepted
   tree = then-right (headerFits image) _ both
 
-  pub from-root : (s : Sought) (key : ℕ) → sought s L image key ≡ descend (treeOf L image) s (compared L key) (rootLevel L image) (root L image)
-  unfolding sought
+  pub from-root : (s : Sought) (key : ℕ) → searched s L image key ≡ descend (pageTree L image) s (compared L key) (rootLevel L image) (root L image)
+  unfolding searched
   from-root s key = goes refused _ _ (then-left (headerFits image) _ both)
 
-  pub scans : AsScanned (treeOf L image) (rootLevel L image) (root L image)
-  scans = as-scanned (treeOf L image) (sorted L image) (rootLevel L image) (root L image) tree
+  pub scans : AsScanned (pageTree L image) (rootLevel L image) (root L image)
+  scans = as-scanned (pageTree L image) (sorted L image) (rootLevel L image) (root L image) tree
 
-  path-length : (key : ℕ) → length (pathIn (treeOf L image) (compared L key) (rootLevel L image) (root L image)) ≡ length (path L image key)
+  path-length : (key : ℕ) → length (pathUnder (pageTree L image) (compared L key) (rootLevel L image) (root L image)) ≡ length (path L image key)
   unfolding path
-  path-length key = sym (length-map (pathIn (treeOf L image) (compared L key) (rootLevel L image) (root L image)) (λ p. p .offset))
+  path-length key = sym (length-map (pathUnder (pageTree L image) (compared L key) (rootLevel L image) (root L image)) (λ p. p .offset))
 
   absent-iff : (key : ℕ) → (lookup L image key ≡ absent (length (path L image key))) ↔ Missing (compared L key) (map (keyIn L) (scan L image))
   unfolding scan
@@ -59,8 +59,8 @@ module _ (L : Layout) (image : List ℕ) (ok : treeFits L image ≡ Accepted) wh
         found-there = λ key e n h. scans .found-there (compared L key) e n (sym (from-root _ key) ∙ h);
         ascending = scans .ascending;
         absent-iff = absent-iff;
-        one-route = one-route (treeOf L image) (sorted L image) (filled L image) (λ p. p .offset) (placed L image) (rootLevel L image) (root L image) refl tree;
-        short = λ key. rw (sym (path-length key)) (path-short (treeOf L image) (compared L key) (rootLevel L image) (root L image));
+        one-route = one-route (pageTree L image) (sorted L image) (filled L image) (λ p. p .offset) (placed L image) (rootLevel L image) (root L image) refl tree;
+        short = λ key. rw (sym (path-length key)) (path-short (pageTree L image) (compared L key) (rootLevel L image) (root L image));
       }
 
 pub demand3 : Demand3Holds

@@ -11,7 +11,7 @@ use Rattle.search.proofs.Checked.{exact}
 use Rattle.header.proofs.HeaderLaws.{header-exactly}
 use Rattle.page.specs.declared.Layout.{Layout}
 use Rattle.page.proofs.Exactly.{page-exactly}
-use Rattle.tree.specs.Tree.{root, rootLevel, treeOf, treeRules, treeFits}
+use Rattle.tree.specs.Tree.{root, rootLevel, pageTree, treeRules, treeFits}
 use Rattle.tree.specs.Sound.{TreeSound}
 use Rattle.tree.proofs.Walk.{test-is, tree-parts}
 
@@ -26,14 +26,14 @@ module _ (L : Layout) (image : List ℕ) where
       let both = sym (tree-parts L image) ∙ ok in
       record {
         header = header-exactly image .0 (then-left _ _ both);
-        pages = λ l p r. page-exactly L image p .0 (sym (test-is L image l p) ∙ exact (treeOf L image) (rootLevel L image) (root L image) .accepted .0 (then-right _ _ both) l p r);
+        pages = λ l p r. page-exactly L image p .0 (sym (test-is L image l p) ∙ exact (pageTree L image) (rootLevel L image) (root L image) .accepted .0 (then-right _ _ both) l p r);
       }
 
   of-sound : TreeSound L image → treeFits L image ≡ Accepted
   of-sound s =
       tree-parts L image
       ∙ goes Refused _ _ (header-exactly image .1 (s .header))
-      ∙ exact (treeOf L image) (rootLevel L image) (root L image) .accepted .1 (λ l p r. test-is L image l p ∙ page-exactly L image p .1 (s .pages l p r))
+      ∙ exact (pageTree L image) (rootLevel L image) (root L image) .accepted .1 (λ l p r. test-is L image l p ∙ page-exactly L image p .1 (s .pages l p r))
 
   -- a tree is accepted exactly when the header's rules hold, and for every page reached from the root its rules
   pub tree-exactly : (treeFits L image ≡ Accepted) ↔ TreeSound L image

@@ -16,7 +16,7 @@ use Rattle.keys.specs.Search.{fromKey}
 use Rattle.keys.proofs.SearchLaws.{all-map}
 use Rattle.search.specs.Answer.{refused, answer}
 use Rattle.search.specs.Descent.{descend}
-use Rattle.search.specs.Holds.{Says, AtMost}
+use Rattle.search.specs.Promises.{Says, AtMost}
 use Rattle.search.proofs.Checked.{leaves-climb, all-leaves}
 use Rattle.search.proofs.Few.{few-read}
 use Rattle.search.proofs.Lists.{lists-all}
@@ -24,9 +24,9 @@ use Rattle.header.specs.Header.{headerFits}
 use Rattle.page.specs.declared.Layout.{Layout}
 use Rattle.page.specs.Layout.{shape, compared}
 use Rattle.page.specs.Page.{page, entries, keyIn}
-use Rattle.tree.specs.Tree.{root, rootLevel, treeOf, treeFits, scan}
-use Rattle.tree.specs.Lookup.{sought, next}
-use Rattle.tree.specs.Listed.{ListingHolds, FewPagesHolds, ListsHolds}
+use Rattle.tree.specs.Tree.{root, rootLevel, pageTree, treeFits, scan}
+use Rattle.tree.specs.Lookup.{searched, next}
+use Rattle.tree.specs.Listing.{ListingHolds, FewPagesHolds, ListsHolds}
 use Rattle.tree.proofs.Searched.{sorted, filled}
 use Rattle.tree.proofs.Demand3.{tree, from-root, scans}
 
@@ -43,11 +43,11 @@ listing L image ok =
 
 -- however the image stands, few pages are read
 pub few-pages-read : FewPagesHolds
-unfolding sought after AtMost
+unfolding searched after AtMost
 few-pages-read L image from = by (headerFits image)
   where
-    by : (v : Verdict) → AtMost (2 * rootLevel L image + 1) (after refused v (descend (treeOf L image) AtLeast (compared L from) (rootLevel L image) (root L image)))
-    by Accepted = few-read (treeOf L image) (sorted L image) (filled L image) (compared L from) (rootLevel L image) (root L image)
+    by : (v : Verdict) → AtMost (2 * rootLevel L image + 1) (after refused v (descend (pageTree L image) AtLeast (compared L from) (rootLevel L image) (root L image)))
+    by Accepted = few-read (pageTree L image) (sorted L image) (filled L image) (compared L from) (rootLevel L image) (root L image)
     by (Refused r) = tt
 
 -- the keys of entries made of bytes
@@ -67,7 +67,7 @@ module _ (L : Layout) where
 
     scan-short : All Short (scan L image)
     unfolding scan
-    scan-short = all-leaves (treeOf L image) Short (λ l p. entries-short (p .offset)) (rootLevel L image) (root L image)
+    scan-short = all-leaves (pageTree L image) Short (λ l p. entries-short (p .offset)) (rootLevel L image) (root L image)
 
   module _ (image : List ℕ) (ok : treeFits L image ≡ Accepted) where
     here : (k : ℕ) → k < 256 ^ L .sought → Says (next L image k) (fromKey (keyIn L) k (scan L image))
@@ -82,5 +82,5 @@ lists L image small bytes ok =
     let powers = pow-le-pow-right {n = 256} (zero-lt-suc 255) small in
     let least = pow-le-pow-right {n = 256} (zero-lt-suc 255) (zero-le {n = L .sought}) in
     lists-all (next L image) (keyIn L) (256 ^ L .sought) (scan L image) (here L image ok) least
-    (leaves-climb (treeOf L image) (sorted L image) (rootLevel L image) (root L image) (tree L image ok))
+    (leaves-climb (pageTree L image) (sorted L image) (rootLevel L image) (root L image) (tree L image ok))
     (all-map (λ e b. le-trans b powers) (scan L image) (scan-short L image bytes))

@@ -4,25 +4,25 @@ use mathlib.Core.Path.{refl, sym, ap, _∙_}
 use mathlib.Core.List.{List}
 use native.Mathlib.Omega.{arith}
 use lib.ListN.{length}
-use Rattle.search.specs.Holds.{Sorted, Filled, Placed}
+use Rattle.search.specs.Promises.{Sorted, Filled, Placed}
 use Rattle.page.specs.declared.Layout.{Layout}
 use Rattle.page.specs.Page.{page, levelOf, entries}
 use Rattle.page.proofs.PageLaws.{all-of-page, page-keys}
-use Rattle.tree.specs.Tree.{linkOf, treeOf}
+use Rattle.tree.specs.Tree.{linkOf, pageTree}
 use Rattle.tree.proofs.Children.{ranged, entries-length}
 use Rattle.tree.proofs.Walk.{accepted-level, some-entry, test-is}
 
 module _ (L : Layout) (image : List ℕ) where
-  pub sorted : Sorted (treeOf L image)
+  pub sorted : Sorted (pageTree L image)
   sorted = record { ranged = ranged L; climbs = λ l p e. page-keys L image p (all-of-page L image p (sym (test-is L image l p) ∙ e)) }
 
-  pub filled : Filled (treeOf L image)
+  pub filled : Filled (pageTree L image)
   unfolding linkOf
   filled l r e ok none-there =
       let p = linkOf L l r e in
       omega (arith, some-entry L image p (sym (test-is L image l p) ∙ ok) l refl, sym (entries-length L (page image (p .offset))) ∙ ap length none-there)
 
-  unfoldable pub placed : Placed (treeOf L image) (λ p. p .offset)
+  unfoldable pub placed : Placed (pageTree L image) (λ p. p .offset)
   unfolding linkOf
   placed =
       record {

@@ -11,7 +11,7 @@ use Rattle.refusal.specs.declared.Verdict.{Verdict}
 use Rattle.refusal.specs.declared.Verdict.the-variants.{Accepted}
 use Rattle.keys.specs.declared.Sought.the-variants.{AtLeast}
 use Rattle.keys.specs.Search.{lastAtMost, start}
-use Rattle.search.specs.Tree.{children}
+use Rattle.search.specs.SearchTree.{children}
 use Rattle.search.specs.Answer.{Answer, found, absent, refused, counted, orNext, inTurn}
 use Rattle.search.specs.Descent.{picked, descend}
 use Rattle.search.proofs.Few.{Few, few-absent, direct-ends, behind-direct}
@@ -21,7 +21,7 @@ use Rattle.page.specs.Page.{page, entries, keyIn, pageFits}
 use Rattle.tree.specs.declared.Found.{Found}
 use Rattle.tree.specs.declared.Found.the-variants.{Entry, Absent, Refused as Turned}
 use Rattle.tree.specs.declared.Next.the-variants.{NoMore}
-use Rattle.tree.specs.Tree.{treeOf}
+use Rattle.tree.specs.Tree.{pageTree}
 use Rattle.tree.specs.Answers.{shown, kidsFrom, nextOf}
 use Rattle.tree.proofs.Found.{the-type}
 use Rattle.tree.proofs.Children.{starting-from}
@@ -79,9 +79,9 @@ module _ (L : Layout) (n : ℕ) (a : Answer (List ℕ)) (f : Found) (first-is : 
 module _ (L : Layout) (image : List ℕ) (k n : ℕ) (p : Link) (v : Verdict) (page-is : v ≡ pageFits L image p)
     (l i : ℕ) (h : l ≡ 0 → ⊥) (q : v ≡ Accepted) (starts : i ≡ start (lastAtMost k (map (keyIn L) (entries L (page image (p .offset)))))) where
   abbrev go : ℕ → Link → Answer (List ℕ)
-  go m c = descend (treeOf L image) AtLeast k m c
+  go m c = descend (pageTree L image) AtLeast k m c
 
-  here : (cs : List Link) → kidsFrom L image (l - 1) p i ≡ cs → picked (treeOf L image) AtLeast k (children (treeOf L image) (l - 1) p) ≡ cs
+  here : (cs : List Link) → kidsFrom L image (l - 1) p i ≡ cs → picked (pageTree L image) AtLeast k (children (pageTree L image) (l - 1) p) ≡ cs
   here cs e = sym (starting-from L image (l - 1) p k i starts) ∙ e
 
   pub seek-none : nextOf (kidsFrom L image (l - 1) p i) ≡ NoMore → Absent (n + 1) ≡ shown L (counted n (go l p))
@@ -107,6 +107,6 @@ module _ (L : Layout) (image : List ℕ) (k n : ℕ) (p : Link) (v : Verdict) (p
     unfolding inTurn
     seek-second m d ds e z =
         let b = first-child ∙ ap (λ (cs : List Link). c ∷ cs) z in
-        ap (counted m) (sym (direct-ends _ (behind-direct (treeOf L image) (sorted L image) (filled L image) k (l - 1) p c d ds (test-is L image (suc (l - 1)) p ∙ sym page-is ∙ q) (here (c ∷ d ∷ ds) b))))
+        ap (counted m) (sym (direct-ends _ (behind-direct (pageTree L image) (sorted L image) (filled L image) k (l - 1) p c d ds (test-is L image (suc (l - 1)) p ∙ sym page-is ∙ q) (here (c ∷ d ∷ ds) b))))
         ∙ absent-goes L n (go (l - 1) c) f first-is m (inTurn (λ c. go (l - 1) c) (d ∷ ds)) e
         ∙ index (c ∷ d ∷ ds) b

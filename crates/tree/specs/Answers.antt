@@ -9,11 +9,11 @@ use Rattle.page.specs.declared.Layout.{Layout}
 use Rattle.page.specs.declared.Link.{Link}
 use Rattle.keys.specs.declared.End.{End}
 use Rattle.keys.specs.declared.Sought.the-variants.{Equal}
+use Rattle.keys.specs.Records.{recordsFrom}
 use Rattle.keys.specs.Search.{lastAtMost}
-use Rattle.search.specs.Tree.{offspring}
-use Rattle.search.specs.Descent.{turns}
+use Rattle.search.specs.SearchTree.{offspring}
+use Rattle.search.specs.Descent.{fromSeat}
 use Rattle.search.specs.Answer.{Answer, found, absent, refused}
-use Rattle.search.proofs.Records.{childrenFrom}
 use Rattle.page.specs.Layout.{nbt, bbt, shape}
 use Rattle.page.specs.Page.{page, countOf, levelOf, entries, keyIn, pageFits}
 use Rattle.tree.specs.declared.Fields.{Fields}
@@ -73,13 +73,14 @@ nextBlockOf image from = asBlock (shown bbt (next bbt image from))
 -- the children of a page from the i-th on
 unfoldable pub kidsFrom : Layout → List ℕ → ℕ → Link → ℕ → List Link
 kidsFrom L image l p i =
-    childrenFrom (keyIn L) (linkOf L l) (p .range .to) (shape L (levelOf L (page image (p .offset)))) (countOf L (page image (p .offset))) (page image (p .offset)) i
+    offspring (keyIn L) (linkOf L l) (p .range .to)
+    (recordsFrom (shape L (levelOf L (page image (p .offset)))) (countOf L (page image (p .offset))) (page image (p .offset)) i)
 
 -- the chosen child of a page g, or none
 unfoldable pub chosenOf : Layout → ℕ → End → ℕ → List ℕ → List Link
 chosenOf L l to k g =
     let kids = offspring (keyIn L) (linkOf L l) to (entries L g) in
-    turns Equal (lastAtMost k (map (λ c. c .range .from) kids)) kids
+    fromSeat Equal (lastAtMost k (map (λ c. c .range .from) kids)) kids
 
 -- a child that was found, or none
 unfoldable pub nextOf : List Link → Next

@@ -10,7 +10,7 @@ use Rattle.keys.specs.Plain.{All, Ascending, Missing, Distinct}
 use Rattle.keys.specs.Search.{withKey}
 use Rattle.search.specs.Answer.{found, absent, answer}
 use Rattle.page.specs.declared.Layout.{Layout}
-use Rattle.page.specs.Layout.{compared, Fair}
+use Rattle.page.specs.Layout.{compared, FairLayout}
 use Rattle.page.specs.Page.{page, keyIn}
 use Rattle.tree.specs.Tree.{rootLevel, treeFits, scan, allRoutes}
 use Rattle.tree.specs.Lookup.{lookup, path}
@@ -38,4 +38,4 @@ pub record AgreeOnPath (L : Layout) (key : ℕ) (one other : List ℕ) : Type 0 
   pub same-pages : All (λ offset. page one offset ≡ page other offset) (path L one key)
 
 abbrev pub OffPathHolds : Type 0
-OffPathHolds = (L : Layout) (key : ℕ) (one other : List ℕ) → Fair L → AgreeOnPath L key one other → lookup L one key ≡ lookup L other key
+OffPathHolds = (L : Layout) (key : ℕ) (one other : List ℕ) → FairLayout L → AgreeOnPath L key one other → lookup L one key ≡ lookup L other key

@@ -1,6 +1,6 @@
 pub mod Tree
 pub mod Lookup
 pub mod Answers
-pub mod Listed
+pub mod Listing
 pub mod Demand3
 pub mod Sound

@@ -5,23 +5,23 @@ use Rattle.refusal.specs.Order.{after}
 use Rattle.keys.specs.declared.Sought.{Sought}
 use Rattle.keys.specs.declared.Sought.the-variants.{Equal, AtLeast}
 use Rattle.search.specs.Answer.{Answer, refused}
-use Rattle.search.specs.Descent.{descend, path as pathIn}
+use Rattle.search.specs.Descent.{descend, pathUnder}
 use Rattle.header.specs.Header.{headerFits}
 use Rattle.page.specs.declared.Layout.{Layout}
 use Rattle.page.specs.Layout.{compared}
-use Rattle.tree.specs.Tree.{root, rootLevel, treeOf}
+use Rattle.tree.specs.Tree.{root, rootLevel, pageTree}
 
 -- "header, then the root page", and from there down
-unfoldable pub sought : Sought → Layout → List ℕ → ℕ → Answer (List ℕ)
-sought s L image key = after refused (headerFits image) (descend (treeOf L image) s (compared L key) (rootLevel L image) (root L image))
+unfoldable pub searched : Sought → Layout → List ℕ → ℕ → Answer (List ℕ)
+searched s L image key = after refused (headerFits image) (descend (pageTree L image) s (compared L key) (rootLevel L image) (root L image))
 
 -- the lookup of a key; and, beyond document 01, the listing: the first leaf entry whose key is at least `from`
 abbrev pub lookup : Layout → List ℕ → ℕ → Answer (List ℕ)
-lookup L image key = sought Equal L image key
+lookup L image key = searched Equal L image key
 
 abbrev pub next : Layout → List ℕ → ℕ → Answer (List ℕ)
-next L image from = sought AtLeast L image from
+next L image from = searched AtLeast L image from
 
 -- "The path is this list of pages and the reported count is its length."
 unfoldable pub path : Layout → List ℕ → ℕ → List ℕ
-path L image key = map (λ p. p .offset) (pathIn (treeOf L image) (compared L key) (rootLevel L image) (root L image))
+path L image key = map (λ p. p .offset) (pathUnder (pageTree L image) (compared L key) (rootLevel L image) (root L image))

@@ -6,7 +6,7 @@ use Rattle.refusal.specs.declared.Verdict.{Verdict}
 use Rattle.refusal.specs.Order.{Rule, inOrder}
 use Rattle.keys.specs.declared.End.the-variants.{Open}
 use Rattle.keys.specs.declared.Range.{Range}
-use Rattle.search.specs.Tree.{Form, rulesUnder, leaves, routes}
+use Rattle.search.specs.SearchTree.{SearchTree, rulesUnder, leaves, routes}
 use Rattle.header.specs.Header.{headerRules}
 use Rattle.page.specs.declared.Layout.{Layout}
 use Rattle.page.specs.declared.Level.the-variants.{AtRoot, Exactly}
@@ -38,8 +38,8 @@ linkOf L l range e =
     }
 
 -- the pages of an image as a search tree
-abbrev pub treeOf : Layout → List ℕ → Form Link (List ℕ)
-treeOf L image =
+abbrev pub pageTree : Layout → List ℕ → SearchTree Link (List ℕ)
+pageTree L image =
     record {
       rules = λ l p. pageRules L image p;
       entries = λ l p. entries L (page image (p .offset));
@@ -51,15 +51,15 @@ treeOf L image =
 module _ (L : Layout) (image : List ℕ) where
   -- "Whole-tree check: header, then from the root down: the page, then its children from left to right, each with everything under it"
   unfoldable pub treeRules : List Rule
-  treeRules = headerRules image ++ rulesUnder (treeOf L image) (rootLevel L image) (root L image)
+  treeRules = headerRules image ++ rulesUnder (pageTree L image) (rootLevel L image) (root L image)
 
   unfoldable pub treeFits : Verdict
   treeFits = inOrder treeRules
 
   -- all leaf entries of the tree: the plain scan goes over this list
   unfoldable pub scan : List (List ℕ)
-  scan = leaves (treeOf L image) (rootLevel L image) (root L image)
+  scan = leaves (pageTree L image) (rootLevel L image) (root L image)
 
   -- the offsets of all pages, once for each route that leads there
   unfoldable pub allRoutes : List ℕ
-  allRoutes = map (λ p. p .offset) (routes (treeOf L image) (λ cs. cs) (rootLevel L image) (root L image))
+  allRoutes = map (λ p. p .offset) (routes (pageTree L image) (λ cs. cs) (rootLevel L image) (root L image))

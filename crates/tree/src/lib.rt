@@ -16,18 +16,17 @@ ghost use mathlib.Core.List.{map};
 ghost use Prim.Native.Nat.{_+_, _*_, _≤_, _<_};
 ghost use lib.ListN.{length};
 ghost use Rattle.le.specs.Bytes.{part};
-ghost use Rattle.keys.specs.Records.{Holds};
+ghost use Rattle.keys.specs.Records.{RecordsIn, recordsFrom};
 ghost use Rattle.keys.specs.Search.{lastAtMost, scanned, start};
-ghost use Rattle.keys.proofs.RecordLaws.{recordsFrom};
-ghost use Rattle.search.specs.Tree.{endOf, offspring, children, under};
+ghost use Rattle.search.specs.SearchTree.{endOf, offspring, children, checkUnder};
 ghost use Rattle.search.specs.Answer.{answer, counted};
 ghost use Rattle.search.specs.Descent.{picked, descend};
 ghost use Rattle.search.proofs.Checked.{each};
 ghost use Rattle.search.proofs.Records.{childAt, childrenFrom};
 ghost use Rattle.header.specs.Header.{headerFits};
-ghost use Rattle.page.specs.Layout.{Fair, Within, nbt, bbt, shape};
+ghost use Rattle.page.specs.Layout.{FairLayout, Within, nbt, bbt, shape};
 ghost use Rattle.page.specs.Page.{page, countOf, levelOf, entries, keyIn, offsetFits, countsFit, pageFits};
-ghost use Rattle.tree.specs.Tree.{root, linkOf, treeOf, treeFits};
+ghost use Rattle.tree.specs.Tree.{root, linkOf, pageTree, treeFits};
 ghost use Rattle.tree.specs.Lookup.{lookup, next};
 ghost use Rattle.tree.specs.Answers.{columnOf, fieldsOf, shown, asNode, nodeOf, asBlock, blockOf, nextNodeOf, nextBlockOf, kidsFrom, chosenOf, nextOf, LevelIs};
 
@@ -82,7 +81,7 @@ pub enum Next {
 
 // Where the range of the child before the i-th entry ends.
 fn end_at(l: Layout, page: &[u8], shape: Shape, count: usize, i: usize, to: End) -> End
-    requires { ⌜ Holds shape count (now page) × (shape .width ≡ l .key) ⌝ }
+    requires { ⌜ RecordsIn shape count (now page) × (shape .width ≡ l .key) ⌝ }
     ensures { λ r. ⌜ r ≡ endOf (keyIn l) to (recordsFrom shape count (now (page .entry)) i) ⌝ }
 {
     if count <= i {
@@ -101,7 +100,7 @@ fn link_at(
     to: End,
     i: usize,
 ) -> Link
-    requires { ⌜ Holds shape count (now page) × (shape .width ≡ l .key) × (l .word * 3 ≤ shape .size) × (l .word ≤ 8) × (i < count) × (count ≤ 255) ⌝ }
+    requires { ⌜ RecordsIn shape count (now page) × (shape .width ≡ l .key) × (l .word * 3 ≤ shape .size) × (l .word ≤ 8) × (i < count) × (count ≤ 255) ⌝ }
     ensures { λ r. ⌜ r ≡ childAt (keyIn l) (linkOf l level) to shape count (now (page .entry)) i ⌝ }
 {
     let word = l.word;
@@ -120,7 +119,7 @@ fn link_at(
 
 // The child of the i-th entry of a page whose counts fit, if there is such an entry.
 fn next_link(l: Layout, page: &[u8], level: usize, p: Link, i: usize) -> Next
-    requires { ⌜ Fair l × (length (now page) ≡ 512) × (countsFit l p (now page) ≡ true) ⌝ }
+    requires { ⌜ FairLayout l × (length (now page) ≡ 512) × (countsFit l p (now page) ≡ true) ⌝ }
     ensures { λ r. ⌜ r ≡ nextOf (childrenFrom (keyIn l) (linkOf l level) (p .range .to) (shape l (levelOf l (now (page .entry)))) (countOf l (now (page .entry))) (now (page .entry)) i) ⌝ }
 {
     let place = l.counts;
@@ -137,7 +136,7 @@ fn next_link(l: Layout, page: &[u8], level: usize, p: Link, i: usize) -> Next
 
 // The same in an image, of an accepted page.
 fn child_at(image: &[u8], l: Layout, level: usize, p: Link, i: usize) -> Next
-    requires { ⌜ Fair l × (pageFits l (now image) p ≡ Verdict.Accepted) ⌝ }
+    requires { ⌜ FairLayout l × (pageFits l (now image) p ≡ Verdict.Accepted) ⌝ }
     ensures { λ r. ⌜ r ≡ nextOf (kidsFrom l (now (image .entry)) level p i) ⌝ }
 {
     let at = p.offset as usize;
@@ -146,7 +145,7 @@ fn child_at(image: &[u8], l: Layout, level: usize, p: Link, i: usize) -> Next
 
 // "Every page on this path gets the full page check": all pages that are read pass here, whatever the call.
 fn verdict_on(image: &[u8], l: Layout, p: Link) -> Verdict
-    requires { ⌜ Fair l ⌝ }
+    requires { ⌜ FairLayout l ⌝ }
     ensures { λ r. ⌜ r ≡ pageFits l (now (image .entry)) p ⌝ }
 {
     page::check_page(image, l, p)
@@ -154,8 +153,8 @@ fn verdict_on(image: &[u8], l: Layout, p: Link) -> Verdict
 
 // The check of a page of a level and of everything under it.
 fn check_under(image: &[u8], l: Layout, level: usize, p: Link) -> Verdict
-    requires { ⌜ Fair l ⌝ }
-    ensures { λ r. ⌜ r ≡ under (treeOf l (now (image .entry))) level p ⌝ }
+    requires { ⌜ FairLayout l ⌝ }
+    ensures { λ r. ⌜ r ≡ checkUnder (pageTree l (now (image .entry))) level p ⌝ }
 {
     let verdict = verdict_on(image, l, p);
     let Verdict::Accepted = verdict else {
@@ -169,8 +168,8 @@ fn check_under(image: &[u8], l: Layout, level: usize, p: Link) -> Verdict
 
 // The check of an accepted page's children, from the i-th on, each with everything under it.
 fn check_children(image: &[u8], l: Layout, level: usize, p: Link, i: usize) -> Verdict
-    requires { ⌜ Fair l × (pageFits l (now image) p ≡ Verdict.Accepted) × (i ≤ 255) ⌝ }
-    ensures { λ r. ⌜ r ≡ each (treeOf l (now (image .entry))) level (kidsFrom l (now (image .entry)) level p i) ⌝ }
+    requires { ⌜ FairLayout l × (pageFits l (now image) p ≡ Verdict.Accepted) × (i ≤ 255) ⌝ }
+    ensures { λ r. ⌜ r ≡ each (pageTree l (now (image .entry))) level (kidsFrom l (now (image .entry)) level p i) ⌝ }
 {
     let next = child_at(image, l, level, p, i);
     let Next::Here(child) = next else {
@@ -185,7 +184,7 @@ fn check_children(image: &[u8], l: Layout, level: usize, p: Link, i: usize) -> V
 
 // The chosen child of a page whose counts fit: that of the last entry whose key is at most the key sought.
 fn choose(l: Layout, page: &[u8], level: usize, p: Link, key: u64) -> Next
-    requires { ⌜ Fair l × (length (now page) ≡ 512) × (countsFit l p (now page) ≡ true) ⌝ }
+    requires { ⌜ FairLayout l × (length (now page) ≡ 512) × (countsFit l p (now page) ≡ true) ⌝ }
     ensures { λ r. ⌜ r ≡ nextOf (chosenOf l level (p .range .to) key (now (page .entry))) ⌝ }
 {
     let place = l.counts;
@@ -203,8 +202,8 @@ fn choose(l: Layout, page: &[u8], level: usize, p: Link, key: u64) -> Next
 
 // The same in an image, of an accepted page.
 fn child_for(image: &[u8], l: Layout, level: usize, p: Link, key: u64) -> Next
-    requires { ⌜ Fair l × (pageFits l (now image) p ≡ Verdict.Accepted) ⌝ }
-    ensures { λ r. ⌜ r ≡ nextOf (picked (treeOf l (now (image .entry))) Sought.Equal key (children (treeOf l (now (image .entry))) level p)) ⌝ }
+    requires { ⌜ FairLayout l × (pageFits l (now image) p ≡ Verdict.Accepted) ⌝ }
+    ensures { λ r. ⌜ r ≡ nextOf (picked (pageTree l (now (image .entry))) Sought.Equal key (children (pageTree l (now (image .entry))) level p)) ⌝ }
 {
     let at = p.offset as usize;
     choose(l, &image[at..at + 512], level, p, key)
@@ -219,7 +218,7 @@ fn column_at(page: &[u8], place: usize, size: usize, column: Column) -> u64
 
 // The numbers of the leaf entry at the place.
 fn fields_at(l: Layout, page: &[u8], place: usize) -> Fields
-    requires { ⌜ Fair l × (place + l .leafsize ≤ length (now page)) ⌝ }
+    requires { ⌜ FairLayout l × (place + l .leafsize ≤ length (now page)) ⌝ }
     ensures { λ r. ⌜ r ≡ fieldsOf l (part (now (page .entry)) place (l .leafsize)) ⌝ }
 {
     let size = l.leafsize;
@@ -241,7 +240,7 @@ fn fields_at(l: Layout, page: &[u8], place: usize) -> Fields
 
 // The answer at a leaf page whose counts fit, when so many pages have been read.
 fn leaf_answer(l: Layout, page: &[u8], p: Link, sought: Sought, key: u64, pages: u64) -> Found
-    requires { ⌜ Fair l × (length (now page) ≡ 512) × (countsFit l p (now page) ≡ true) × (levelOf l (now page) ≡ 0) ⌝ }
+    requires { ⌜ FairLayout l × (length (now page) ≡ 512) × (countsFit l p (now page) ≡ true) × (levelOf l (now page) ≡ 0) ⌝ }
     ensures { λ r. ⌜ r ≡ shown l (answer (scanned sought (keyIn l) key (entries l (now (page .entry)))) pages) ⌝ }
 {
     let count = page::count_at(page, l.counts);
@@ -256,7 +255,7 @@ fn leaf_answer(l: Layout, page: &[u8], p: Link, sought: Sought, key: u64, pages:
 
 // The same in an image, of an accepted page.
 fn leaf_for(image: &[u8], l: Layout, p: Link, sought: Sought, key: u64, pages: u64) -> Found
-    requires { ⌜ Fair l × (pageFits l (now image) p ≡ Verdict.Accepted) × (levelOf l (page (now image) (p .offset)) ≡ 0) ⌝ }
+    requires { ⌜ FairLayout l × (pageFits l (now image) p ≡ Verdict.Accepted) × (levelOf l (page (now image) (p .offset)) ≡ 0) ⌝ }
     ensures { λ r. ⌜ r ≡ shown l (answer (scanned sought (keyIn l) key (entries l (page (now (image .entry)) (p .offset)))) pages) ⌝ }
 {
     let at = p.offset as usize;
@@ -265,8 +264,8 @@ fn leaf_for(image: &[u8], l: Layout, p: Link, sought: Sought, key: u64, pages: u
 
 // The descent from a page of a level, when so many pages have been read.
 fn look(image: &[u8], l: Layout, level: usize, p: Link, key: u64, pages: u64) -> Found
-    requires { ⌜ Fair l × LevelIs l (now image) level p × (pages + level ≤ 1000) ⌝ }
-    ensures { λ r. ⌜ r ≡ shown l (counted pages (descend (treeOf l (now (image .entry))) Sought.Equal key level p)) ⌝ }
+    requires { ⌜ FairLayout l × LevelIs l (now image) level p × (pages + level ≤ 1000) ⌝ }
+    ensures { λ r. ⌜ r ≡ shown l (counted pages (descend (pageTree l (now (image .entry))) Sought.Equal key level p)) ⌝ }
 {
     let verdict = verdict_on(image, l, p);
     if let Verdict::Refused(refusal) = verdict {
@@ -284,7 +283,7 @@ fn look(image: &[u8], l: Layout, level: usize, p: Link, key: u64, pages: u64) ->
 
 // The index of the entry with which a listing starts in a page whose counts fit.
 fn start_in(l: Layout, page: &[u8], p: Link, key: u64) -> usize
-    requires { ⌜ Fair l × (length (now page) ≡ 512) × (countsFit l p (now page) ≡ true) ⌝ }
+    requires { ⌜ FairLayout l × (length (now page) ≡ 512) × (countsFit l p (now page) ≡ true) ⌝ }
     ensures { λ r. ⌜ (r ≡ start (lastAtMost key (map (keyIn l) (entries l (now (page .entry)))))) × (r ≤ 255) ⌝ }
 {
     let place = l.counts;
@@ -295,7 +294,7 @@ fn start_in(l: Layout, page: &[u8], p: Link, key: u64) -> usize
 
 // The same in an image, of an accepted page.
 fn start_for(image: &[u8], l: Layout, p: Link, key: u64) -> usize
-    requires { ⌜ Fair l × (pageFits l (now image) p ≡ Verdict.Accepted) ⌝ }
+    requires { ⌜ FairLayout l × (pageFits l (now image) p ≡ Verdict.Accepted) ⌝ }
     ensures { λ r. ⌜ (r ≡ start (lastAtMost key (map (keyIn l) (entries l (page (now (image .entry)) (p .offset)))))) × (r ≤ 255) ⌝ }
 {
     let at = p.offset as usize;
@@ -305,8 +304,8 @@ fn start_for(image: &[u8], l: Layout, p: Link, key: u64) -> usize
 // The first entry from a key on under a page of a level, when so many pages have been read. The child
 // behind one that answers absent begins above the key, so it never answers absent itself.
 fn seek(image: &[u8], l: Layout, level: usize, p: Link, key: u64, pages: u64) -> Found
-    requires { ⌜ Fair l × LevelIs l (now image) level p × (level ≤ 255) × (pages + 512 * level ≤ 200000) ⌝ }
-    ensures { λ r. ⌜ r ≡ shown l (counted pages (descend (treeOf l (now (image .entry))) Sought.AtLeast key level p)) ⌝ }
+    requires { ⌜ FairLayout l × LevelIs l (now image) level p × (level ≤ 255) × (pages + 512 * level ≤ 200000) ⌝ }
+    ensures { λ r. ⌜ r ≡ shown l (counted pages (descend (pageTree l (now (image .entry))) Sought.AtLeast key level p)) ⌝ }
 {
     let checked = verdict_on(image, l, p);
     if let Verdict::Refused(wrong) = checked {
@@ -333,7 +332,7 @@ fn seek(image: &[u8], l: Layout, level: usize, p: Link, key: u64, pages: u64) ->
 
 // The root page, as the header refers to it.
 fn root_link(image: &[u8], l: Layout) -> Link
-    requires { ⌜ Fair l × (564 ≤ length (now image)) ⌝ }
+    requires { ⌜ FairLayout l × (564 ≤ length (now image)) ⌝ }
     ensures { λ r. ⌜ r ≡ root l (now (image .entry)) ⌝ }
 {
     let place = l.root;
@@ -353,7 +352,7 @@ fn root_link(image: &[u8], l: Layout) -> Link
 
 // The level that a page states, where its offset is allowed: the number that falls on the way down.
 fn stated_level(image: &[u8], l: Layout, offset: u64) -> usize
-    requires { ⌜ Fair l ⌝ }
+    requires { ⌜ FairLayout l ⌝ }
     ensures { λ r. ⌜ (offsetFits (now (image .entry)) offset ≡ true → r ≡ levelOf l (page (now (image .entry)) offset)) × (r ≤ 255) ⌝ }
 {
     if !page::offset_fits(image, offset) {
@@ -365,7 +364,7 @@ fn stated_level(image: &[u8], l: Layout, offset: u64) -> usize
 
 // The whole-tree check.
 fn check_tree(image: &[u8], l: Layout) -> Verdict
-    requires { ⌜ Fair l ⌝ }
+    requires { ⌜ FairLayout l ⌝ }
     ensures { λ r. ⌜ r ≡ treeFits l (now (image .entry)) ⌝ }
 {
     let verdict = header::check_header(image);
@@ -378,7 +377,7 @@ fn check_tree(image: &[u8], l: Layout) -> Verdict
 
 // The lookup of a key in an image whose header is accepted.
 fn find_in(image: &[u8], l: Layout, key: u64) -> Found
-    requires { ⌜ Fair l × (headerFits (now image) ≡ Verdict.Accepted) ⌝ }
+    requires { ⌜ FairLayout l × (headerFits (now image) ≡ Verdict.Accepted) ⌝ }
     ensures { λ r. ⌜ r ≡ shown l (lookup l (now (image .entry)) key) ⌝ }
 {
     let p = root_link(image, l);
@@ -388,7 +387,7 @@ fn find_in(image: &[u8], l: Layout, key: u64) -> Found
 
 // The lookup of a key.
 fn find(image: &[u8], l: Layout, key: u64) -> Found
-    requires { ⌜ Fair l ⌝ }
+    requires { ⌜ FairLayout l ⌝ }
     ensures { λ r. ⌜ r ≡ shown l (lookup l (now (image .entry)) key) ⌝ }
 {
     let verdict = header::check_header(image);
@@ -400,7 +399,7 @@ fn find(image: &[u8], l: Layout, key: u64) -> Found
 
 // The first entry from a key on.
 fn find_next(image: &[u8], l: Layout, from: u64) -> Found
-    requires { ⌜ Fair l ⌝ }
+    requires { ⌜ FairLayout l ⌝ }
     ensures { λ r. ⌜ r ≡ shown l (next l (now (image .entry)) from) ⌝ }
 {
     let verdict = header::check_header(image);

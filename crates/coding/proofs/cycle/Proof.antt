@@ -5,7 +5,7 @@ use native.Mathlib.Omega.{arith}
 use lib.ListN.{length, take, drop, set, getD, length-set}
 use borrow.Author.Needs.{needs}
 use Rattle.laws.proofs.InPlace.{turn, ended}
-use Rattle.coding.specs.Table.{table}
+use Rattle.coding.specs.Table.{codingTable}
 use Rattle.coding.specs.Coding.{cyclic}
 use Rattle.coding.proofs.CodingLaws.{cyclic-on}
 use Rattle.coding.proofs.cycle.Statement.{statement}
@@ -18,7 +18,7 @@ abbrev μ-loop : tie.MeasureT-loop
 μ-loop bytes₀ start t w₀ i₀ bytes w i = length bytes - i
 
 cyclic-byte-requires : tie.Need-cyclic-byte-requires Inv-loop μ-loop
-unfolding table
+unfolding codingTable
 cyclic-byte-requires c κs = refl
 
 loop-again : tie.Need-loop-again Inv-loop μ-loop

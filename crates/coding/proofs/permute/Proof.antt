@@ -5,7 +5,7 @@ use native.Mathlib.Omega.{arith}
 use lib.ListN.{length, take, drop, set, getD, length-set}
 use borrow.Author.Needs.{needs}
 use Rattle.laws.proofs.InPlace.{turn, ended}
-use Rattle.coding.specs.Table.{table, entry}
+use Rattle.coding.specs.Table.{codingTable, entry}
 use Rattle.coding.proofs.permute.Statement.{statement}
 use Rattle.coding.proofs.permute.Tie as tie
 
@@ -16,7 +16,7 @@ abbrev μ-loop : tie.MeasureT-loop
 μ-loop bytes₀ from t i₀ bytes i = length bytes - i
 
 entry-of-requires : tie.Need-entry-of-requires Inv-loop μ-loop
-unfolding table
+unfolding codingTable
 entry-of-requires c κs = (refl, search needs)
 
 loop-again : tie.Need-loop-again Inv-loop μ-loop

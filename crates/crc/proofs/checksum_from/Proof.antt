@@ -4,7 +4,7 @@ use native.Mathlib.Omega.{arith}
 use lib.ListN.{length, drop}
 use Rattle.crc.proofs.ChecksumLaws.{checksum-next, checksum-done}
 use borrow.Author.Needs.{needs}
-use Rattle.crc.specs.Checksum.{checksumFrom, bits, bit, table}
+use Rattle.crc.specs.Checksum.{checksumFrom, bits, bit, checksumTable}
 use Rattle.crc.proofs.checksum_from.Statement.{statement}
 use Rattle.crc.proofs.checksum_from.Tie as tie
 
@@ -15,7 +15,7 @@ abbrev μ-loop : tie.MeasureT-loop
 μ-loop start bytes t sum₀ i₀ sum i = length bytes - i
 
 with-byte-requires : tie.Need-with-byte-requires Inv-loop μ-loop
-unfolding table bits bit
+unfolding checksumTable bits bit
 with-byte-requires c κs = refl
 
 loop-again : tie.Need-loop-again Inv-loop μ-loop

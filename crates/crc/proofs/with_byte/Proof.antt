@@ -5,14 +5,14 @@ use native.Mathlib.Omega.{arith}
 use lib.Bits.{bitXor}
 use lib.ListN.{getD}
 use Rattle.laws.proofs.Table.{at}
-use Rattle.crc.specs.Checksum.{bits, table}
+use Rattle.crc.specs.Checksum.{bits, checksumTable}
 use Rattle.crc.proofs.ChecksumLaws.{byte-high, bits-table}
 use borrow.Author.Needs.{needs}
 use Rattle.crc.proofs.with_byte.Statement.{statement}
 use Rattle.crc.proofs.with_byte.Tie as tie
 
 returns : tie.Need-returns
-unfolding table
+unfolding checksumTable
 returns c =
     let a = c .before .before .args in
     cc (

@@ -3,37 +3,37 @@ use lib.Dec.{eqb}
 use Rattle.laws.proofs.Tests.{fails, holds}
 use Rattle.refusal.specs.Order.{none, both, here, later}
 use Rattle.refusal.proofs.OrderLaws.{accepted-exactly, refused-exactly}
-use Rattle.header.specs.Header.{checksumFits, sealRules}
+use Rattle.header.specs.Header.{headerSumFits, sealRules}
 use borrow.Author.Needs.{needs}
 use Rattle.header.proofs.check_seals.Statement.{statement}
 use Rattle.header.proofs.check_seals.Tie as tie
 
 returns : tie.Need-returns
-unfolding sealRules checksumFits
+unfolding sealRules headerSumFits
 returns c =
     let d1 = c .before in
     c .refused-at .ensures ∙ sym (refused-exactly _ _ .1 (here (fails _ _ (d1 .before .sum-stands .ensures ∙ ap (eqb _) (d1 .before .before .partial-sum .ensures)) (d1 .if1 .taken))))
 
 returns-2 : tie.Need-returns-2
-unfolding sealRules checksumFits
+unfolding sealRules headerSumFits
 returns-2 c =
     let d2 = c .before in let d1 = d2 .before .before .before in
     c .refused-at2 .ensures ∙ sym (refused-exactly _ _ .1 (later (holds _ _ (d1 .before .sum-stands .ensures ∙ ap (eqb _) (d1 .before .before .partial-sum .ensures)) (d1 .if1 .left)) (here (fails _ _ (d2 .before .sum-stands2 .ensures ∙ ap (eqb _) (d2 .before .before .whole-sum .ensures)) (d2 .if2 .taken)))))
 
 returns-3 : tie.Need-returns-3
-unfolding sealRules checksumFits
+unfolding sealRules headerSumFits
 returns-3 c =
     let d3 = c .before in let d2 = d3 .before .before in let d1 = d2 .before .before .before in
     c .refused-at3 .ensures ∙ sym (refused-exactly _ _ .1 (later (holds _ _ (d1 .before .sum-stands .ensures ∙ ap (eqb _) (d1 .before .before .partial-sum .ensures)) (d1 .if1 .left)) (later (holds _ _ (d2 .before .sum-stands2 .ensures ∙ ap (eqb _) (d2 .before .before .whole-sum .ensures)) (d2 .if2 .left)) (here (fails _ _ (d3 .before .sentinel-fits .ensures) (d3 .if3 .taken))))))
 
 returns-4 : tie.Need-returns-4
-unfolding sealRules checksumFits
+unfolding sealRules headerSumFits
 returns-4 c =
     let d4 = c .before in let d3 = d4 .before .before in let d2 = d3 .before .before in let d1 = d2 .before .before .before in
     c .refused-at4 .ensures ∙ sym (refused-exactly _ _ .1 (later (holds _ _ (d1 .before .sum-stands .ensures ∙ ap (eqb _) (d1 .before .before .partial-sum .ensures)) (d1 .if1 .left)) (later (holds _ _ (d2 .before .sum-stands2 .ensures ∙ ap (eqb _) (d2 .before .before .whole-sum .ensures)) (d2 .if2 .left)) (later (holds _ _ (d3 .before .sentinel-fits .ensures) (d3 .if3 .left)) (here (fails _ _ (d4 .before .encoding-fits .ensures) (d4 .if4 .taken)))))))
 
 returns-5 : tie.Need-returns-5
-unfolding sealRules checksumFits
+unfolding sealRules headerSumFits
 returns-5 c =
     let d4 = c in let d3 = d4 .before .before in let d2 = d3 .before .before in let d1 = d2 .before .before .before in
     sym (accepted-exactly (sealRules _) .1 (both (holds _ _ (d1 .before .sum-stands .ensures ∙ ap (eqb _) (d1 .before .before .partial-sum .ensures)) (d1 .if1 .left)) (both (holds _ _ (d2 .before .sum-stands2 .ensures ∙ ap (eqb _) (d2 .before .before .whole-sum .ensures)) (d2 .if2 .left)) (both (holds _ _ (d3 .before .sentinel-fits .ensures) (d3 .if3 .left)) (both (holds _ _ (d4 .before .encoding-fits .ensures) (d4 .if4 .left)) none)))))

@@ -13,7 +13,7 @@ unfolding itemStart itemEnd
 returns c =
     let a = c .before .before .before .before .args in
     let p = c .before .before .before .before .pre in
-    let index = c .before .before .index-of .ensures .0 in
+    let index = c .before .before .item-index .ensures .0 in
     let start : c .before .offset-at .result ≡ itemStart (a .block .now) (a .item) = c .before .offset-at .ensures .0 ∙ ap (offset (a .block .now)) index in
     let end : c .offset-at2 .result ≡ itemEnd (a .block .now) (a .item) = c .offset-at2 .ensures .0 ∙ ap (λ (i : ℕ). offset (a .block .now) (i + 1)) index in (
       start,

@@ -16,13 +16,13 @@ returns-2 : tie.Need-returns-2
 returns-2 c =
     let a = c .before .before .before .before .before .before .before .args in
     let shape = sym (c .before .before .before .before .before .test-heap .ensures) ∙ c .before .before .before .enum-told .given .1 in
-    c .refused-at .ensures ∙ sym (item-number (a .block .now) (a .item) shape ∙ breaks _ _ (fails _ _ (c .before .before .number-fits .ensures) (c .before .if1 .taken)))
+    c .refused-at .ensures ∙ sym (item-number (a .block .now) (a .item) shape ∙ breaks _ _ (fails _ _ (c .before .before .item-fits .ensures) (c .before .if1 .taken)))
 
 returns-3 : tie.Need-returns-3
 returns-3 c =
     let a = c .before .before .before .before .before .before .args in
     let shape = sym (c .before .before .before .before .test-heap .ensures) ∙ c .before .before .enum-told .given .1 in
-    sym (item-number (a .block .now) (a .item) shape ∙ passes _ _ (holds _ _ (c .before .number-fits .ensures) (c .if1 .left)))
+    sym (item-number (a .block .now) (a .item) shape ∙ passes _ _ (holds _ _ (c .before .item-fits .ensures) (c .if1 .left)))
 
 pub test-item-spec : {M : Type 1} → statement M
 test-item-spec =

@@ -14,18 +14,18 @@ use Rattle.heaptree.proofs.check_branch.Tie as tie
 returns : tie.Need-returns
 returns c =
     let a = c .before .before .before .before .args in
-    c .refused-at .ensures ∙ sym (branch-number (a .tree) (a .block .now) (a .levels) (a .branch) (fails _ _ (c .before .before .number-fits .ensures) (c .before .if1 .taken)))
+    c .refused-at .ensures ∙ sym (branch-number (a .tree) (a .block .now) (a .levels) (a .branch) (fails _ _ (c .before .before .item-fits .ensures) (c .before .if1 .taken)))
 
 returns-2 : tie.Need-returns-2
 returns-2 c =
     let a = c .before .before .before .before .before .before .before .before .before .args in
     c .refused-at2 .ensures
-    ∙ sym (branch-records (a .tree) (a .block .now) (a .levels) (a .branch) (holds _ _ (c .before .before .before .before .before .before .before .number-fits .ensures) (c .before .before .before .before .before .before .if1 .left)) (fails _ _ (c .before .before .records-fit .ensures ∙ ap₂ (λ (shape : Shape) (bytes : List ℕ). recordsFit shape (a .branch .range) bytes) (c .before .before .before .shape-at .ensures) (c .before .before .before .before .part-of .ensures)) (c .before .if2 .taken)))
+    ∙ sym (branch-records (a .tree) (a .block .now) (a .levels) (a .branch) (holds _ _ (c .before .before .before .before .before .before .before .item-fits .ensures) (c .before .before .before .before .before .before .if1 .left)) (fails _ _ (c .before .before .records-fit .ensures ∙ ap₂ (λ (shape : Shape) (bytes : List ℕ). recordsFit shape (a .branch .range) bytes) (c .before .before .before .shape-at .ensures) (c .before .before .before .before .part-of .ensures)) (c .before .if2 .taken)))
 
 returns-3 : tie.Need-returns-3
 returns-3 c =
     let a = c .before .before .before .before .before .before .before .before .args in
-    sym (branch-accepted (a .tree) (a .block .now) (a .levels) (a .branch) (holds _ _ (c .before .before .before .before .before .before .number-fits .ensures) (c .before .before .before .before .before .if1 .left)) (holds _ _ (c .before .records-fit .ensures ∙ ap₂ (λ (shape : Shape) (bytes : List ℕ). recordsFit shape (a .branch .range) bytes) (c .before .before .shape-at .ensures) (c .before .before .before .part-of .ensures)) (c .if2 .left)))
+    sym (branch-accepted (a .tree) (a .block .now) (a .levels) (a .branch) (holds _ _ (c .before .before .before .before .before .before .item-fits .ensures) (c .before .before .before .before .before .if1 .left)) (holds _ _ (c .before .records-fit .ensures ∙ ap₂ (λ (shape : Shape) (bytes : List ℕ). recordsFit shape (a .branch .range) bytes) (c .before .before .shape-at .ensures) (c .before .before .before .part-of .ensures)) (c .if2 .left)))
 
 pub check-branch-spec : {M : Type 1} → statement M
 check-branch-spec =
@@ -34,7 +34,7 @@ check-branch-spec =
     (λ c κs. search needs)
     (λ c κs. search needs)
     returns
-    (λ c κs. (c .before .before .before .before .pre .0, number-exactly _ _ .0 (holds _ _ (c .before .before .number-fits .ensures) (c .before .if1 .left))))
+    (λ c κs. (c .before .before .before .before .pre .0, number-exactly _ _ .0 (holds _ _ (c .before .before .item-fits .ensures) (c .before .if1 .left))))
     (λ c κs. search needs)
     (λ c κs. rw (c .shape-at .ensures) (shape-fair _ (c .before .before .before .before .before .before .pre .1) _))
     (λ c κs. search needs)

@@ -11,12 +11,12 @@ returns-2 : tie.Need-returns-2
 returns-2 c =
     let a = c .before .before .before .before .before .before .before .args in
     c .refused-at2 .ensures
-    ∙ sym (wrong-record (a .tree) (a .block .now) (a .root) (holds _ _ (c .before .before .before .before .before .number-fits .ensures) (c .before .before .before .before .if1 .left)) (fails _ _ (c .before .before .root-fits .ensures ∙ ap (rootFits (a .tree)) (c .before .before .before .part-of .ensures)) (c .before .if2 .taken)))
+    ∙ sym (wrong-record (a .tree) (a .block .now) (a .root) (holds _ _ (c .before .before .before .before .before .item-fits .ensures) (c .before .before .before .before .if1 .left)) (fails _ _ (c .before .before .root-fits .ensures ∙ ap (rootFits (a .tree)) (c .before .before .before .part-of .ensures)) (c .before .if2 .taken)))
 
 returns-3 : tie.Need-returns-3
 returns-3 c =
     let a = c .before .before .before .before .before .before .args in
-    sym (right-record (a .tree) (a .block .now) (a .root) (holds _ _ (c .before .before .before .before .number-fits .ensures) (c .before .before .before .if1 .left)) (holds _ _ (c .before .root-fits .ensures ∙ ap (rootFits (a .tree)) (c .before .before .part-of .ensures)) (c .if2 .left)))
+    sym (right-record (a .tree) (a .block .now) (a .root) (holds _ _ (c .before .before .before .before .item-fits .ensures) (c .before .before .before .if1 .left)) (holds _ _ (c .before .root-fits .ensures ∙ ap (rootFits (a .tree)) (c .before .before .part-of .ensures)) (c .if2 .left)))
 
 pub check-root-spec : {M : Type 1} → statement M
 check-root-spec =
@@ -24,8 +24,8 @@ check-root-spec =
     (tie.spec
     (λ c κs. search needs)
     (λ c κs. search needs)
-    (λ c. c .refused-at .ensures ∙ sym (wrong-number _ _ _ (fails _ _ (c .before .before .number-fits .ensures) (c .before .if1 .taken))))
-    (λ c κs. (c .before .before .before .pre, number-exactly _ _ .0 (holds _ _ (c .before .number-fits .ensures) (c .if1 .left))))
+    (λ c. c .refused-at .ensures ∙ sym (wrong-number _ _ _ (fails _ _ (c .before .before .item-fits .ensures) (c .before .if1 .taken))))
+    (λ c κs. (c .before .before .before .pre, number-exactly _ _ .0 (holds _ _ (c .before .item-fits .ensures) (c .if1 .left))))
     (λ c κs. search needs)
     (λ c κs. search needs)
     returns-2

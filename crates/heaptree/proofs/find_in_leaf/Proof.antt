@@ -8,7 +8,7 @@ use Rattle.keys.specs.declared.Sought.the-variants.{Equal}
 use Rattle.keys.specs.Records.{keysOf}
 use Rattle.keys.specs.Search.{firstThat}
 use Rattle.heap.specs.Items.{itemPart}
-use Rattle.heaptree.specs.declared.Tree.{Tree}
+use Rattle.heaptree.specs.declared.HeapTree.{HeapTree}
 use Rattle.heaptree.specs.Value.{leafShape}
 use Rattle.heaptree.specs.Branches.{recordCount}
 use Rattle.heaptree.proofs.RecordLaws.{records-hold, leaf-lies, leaf-at, leaf-none}
@@ -16,7 +16,7 @@ use borrow.Author.Needs.{needs}
 use Rattle.heaptree.proofs.find_in_leaf.Statement.{statement}
 use Rattle.heaptree.proofs.find_in_leaf.Tie as tie
 
-abbrev seatIn : Tree → ℕ → List ℕ → Seat
+abbrev seatIn : HeapTree → ℕ → List ℕ → Seat
 seatIn tree key bytes = firstThat Equal key (keysOf (leafShape tree) (recordCount (leafShape tree) bytes) bytes)
 
 first-that-requires : tie.Need-first-that-requires
@@ -39,7 +39,7 @@ returns-2 : tie.Need-returns-2
 returns-2 c =
     let a = c .before .before .before .before .before .before .before .before .args in
     let i = c .before .before .seat .given .0 .0 in
-    rw (c .start-of .ensures) (leaf-at (a .tree) (a .block .now) (c .before .before .before .before .before .before .before .before .pre .0) (a .item) (c .before .before .before .before .before .before .before .before .pre .1) (a .key) i (sought (c .before)))
+    rw (c .item-start .ensures) (leaf-at (a .tree) (a .block .now) (c .before .before .before .before .before .before .before .before .pre .0) (a .item) (c .before .before .before .before .before .before .before .before .pre .1) (a .key) i (sought (c .before)))
 
 pub find-in-leaf-spec : {M : Type 1} → statement M
 find-in-leaf-spec =
@@ -54,5 +54,5 @@ find-in-leaf-spec =
     returns
     (λ c κs. search needs)
     (λ c. let a = c .before .before .before .before .before .before .before .before .args in omega (arith, leaf-lies (a .tree) (a .block .now) (c .before .before .before .before .before .before .before .before .pre .0) (a .item) (c .before .before .before .before .before .before .before .before .pre .1) (a .key) (c .before .before .seat .given .0 .0) (sought (c .before))))
-    (λ c. let a = c .before .before .before .before .before .before .before .before .args in omega (arith, c .start-of .ensures, leaf-lies (a .tree) (a .block .now) (c .before .before .before .before .before .before .before .before .pre .0) (a .item) (c .before .before .before .before .before .before .before .before .pre .1) (a .key) (c .before .before .seat .given .0 .0) (sought (c .before))))
+    (λ c. let a = c .before .before .before .before .before .before .before .before .args in omega (arith, c .item-start .ensures, leaf-lies (a .tree) (a .block .now) (c .before .before .before .before .before .before .before .before .pre .0) (a .item) (c .before .before .before .before .before .before .before .before .pre .1) (a .key) (c .before .before .seat .given .0 .0) (sought (c .before))))
     returns-2)

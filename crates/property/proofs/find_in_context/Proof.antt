@@ -4,7 +4,7 @@ use Rattle.heap.specs.Shape.{userRoot}
 use Rattle.heaptree.specs.Lookup.{fromRoot, Shows}
 use Rattle.heaptree.proofs.ShownLaws.{lies-at, read-at, read-none, read-wrong}
 use Rattle.property.specs.Context.{properties}
-use Rattle.property.specs.Descent.{valueOf}
+use Rattle.property.specs.Lookup.{valueOf}
 use Rattle.property.proofs.SaidLaws.{value-at}
 use borrow.Author.Needs.{needs}
 use Rattle.property.proofs.find_in_context.Statement.{statement}

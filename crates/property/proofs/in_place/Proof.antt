@@ -1,5 +1,5 @@
 use mathlib.Core.Path.{refl}
-use Rattle.property.specs.Descent.{inPlace}
+use Rattle.property.specs.Lookup.{inPlace}
 use Rattle.property.proofs.in_place.Statement.{statement}
 use Rattle.property.proofs.in_place.Tie as tie
 

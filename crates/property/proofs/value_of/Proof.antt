@@ -3,9 +3,9 @@ use Prim.Native.Nat.{_%_}
 use borrow.Author.Tests.{eq-eqb, ne-eqb}
 use Rattle.laws.proofs.Tests.{fails, holds}
 use Rattle.refusal.proofs.OrderLaws.{test-goes, test-ends}
-use Rattle.heap.specs.Items.{numberFits, badItem}
+use Rattle.heap.specs.Items.{itemFits, badItem}
 use Rattle.property.specs.declared.Property.the-variants.{Refused, Item}
-use Rattle.property.specs.Descent.{valueOf}
+use Rattle.property.specs.Lookup.{valueOf}
 use borrow.Author.Needs.{needs}
 use Rattle.property.proofs.value_of.Statement.{statement}
 use Rattle.property.proofs.value_of.Tie as tie
@@ -31,14 +31,14 @@ unfolding valueOf
 returns-4 c =
     let a = c .before .before .before .before .before .before .before .args in
     rw (sym (c .before .before .before .before .before .in-place .ensures) ∙ c .before .before .before .before .if1 .left, ne-eqb (a .value) 0 (c .before .before .before .if2 .left), eq-eqb (a .value % 32) 0 (c .before .before .if3 .left))
-    (sym (test-ends Refused (numberFits (a .block .now) (a .value)) badItem (Item (a .code) (a .value)) (fails _ _ (c .before .number-fits .ensures) (c .if4 .taken))))
+    (sym (test-ends Refused (itemFits (a .block .now) (a .value)) badItem (Item (a .code) (a .value)) (fails _ _ (c .before .item-fits .ensures) (c .if4 .taken))))
 
 returns-5 : tie.Need-returns-5
 unfolding valueOf
 returns-5 c =
     let a = c .before .before .before .before .before .before .before .args in
     rw (sym (c .before .before .before .before .before .in-place .ensures) ∙ c .before .before .before .before .if1 .left, ne-eqb (a .value) 0 (c .before .before .before .if2 .left), eq-eqb (a .value % 32) 0 (c .before .before .if3 .left))
-    (sym (test-goes Refused (numberFits (a .block .now) (a .value)) badItem (Item (a .code) (a .value)) (holds _ _ (c .before .number-fits .ensures) (c .if4 .left))))
+    (sym (test-goes Refused (itemFits (a .block .now) (a .value)) badItem (Item (a .code) (a .value)) (holds _ _ (c .before .item-fits .ensures) (c .if4 .left))))
 
 pub value-of-spec : {M : Type 1} → statement M
 value-of-spec =

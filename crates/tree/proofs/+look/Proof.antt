@@ -2,8 +2,8 @@ use Prim.Native.Nat.{_-_}
 use mathlib.Core.Path.{sym, _∙_}
 use native.Mathlib.Omega.{arith}
 use borrow.Author.Needs.{needs}
-use Rattle.search.specs.Tree.{children}
-use Rattle.tree.specs.Tree.{treeOf}
+use Rattle.search.specs.SearchTree.{children}
+use Rattle.tree.specs.Tree.{pageTree}
 use Rattle.tree.proofs.Steps.{next-chosen, next-missing, chosen-level, way-refused, way-leaf, way-none, way-one}
 use Rattle.keys.specs.declared.Sought.the-variants.{Equal}
 use Prim.Native.Nat.{ℕ, _<_}
@@ -72,7 +72,7 @@ pub +look-spec : {M : Type 1} → statement M
       (
         pre .1 .0,
         chosen-level (a .l) (a .image .now) (a .key) (a .level - 1) (a .p) (c .before .next .given .0 .0)
-            (next-chosen (a .l) (a .image .now) (a .key) (children (treeOf (a .l) (a .image .now)) (a .level - 1) (a .p)) _ (sym (c .before .before .before .child-for .ensures) ∙ c .before .next .given .1)),
+            (next-chosen (a .l) (a .image .now) (a .key) (children (pageTree (a .l) (a .image .now)) (a .level - 1) (a .p)) _ (sym (c .before .before .before .child-for .ensures) ∙ c .before .next .given .1)),
         omega arith,
       ),
     ))
@@ -80,4 +80,4 @@ pub +look-spec : {M : Type 1} → statement M
     let a = c .before .before .before .before .before .before .before .before .before .before .args in
     c .look .ensures
     ∙ (way-one (a .l) (a .image .now) Equal (a .key) (a .pages) (a .p) _ (c .before .before .before .before .before .before .before .before .verdict-on .ensures) (a .level) (c .before .before .before .before .before .if1 .left) (c .before .before .before .before .before .before .enum-told .given .1) (c .before .before .next .given .0 .0)
-    (next-chosen (a .l) (a .image .now) (a .key) (children (treeOf (a .l) (a .image .now)) (a .level - 1) (a .p)) _ (sym (c .before .before .before .before .child-for .ensures) ∙ c .before .before .next .given .1))))
+    (next-chosen (a .l) (a .image .now) (a .key) (children (pageTree (a .l) (a .image .now)) (a .level - 1) (a .p)) _ (sym (c .before .before .before .before .child-for .ensures) ∙ c .before .before .next .given .1))))

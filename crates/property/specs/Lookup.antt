@@ -7,8 +7,8 @@ use Rattle.le.specs.Bytes.{field}
 use Rattle.refusal.specs.Order.{demand, after}
 use Rattle.search.specs.Answer.{Answer}
 use Rattle.heap.specs.Shape.{userRoot}
-use Rattle.heap.specs.Items.{numberFits, badItem}
-use Rattle.heaptree.specs.Lookup.{fromRoot, read}
+use Rattle.heap.specs.Items.{itemFits, badItem}
+use Rattle.heaptree.specs.Lookup.{fromRoot, byCase}
 use Rattle.property.specs.declared.Property.{Property}
 use Rattle.property.specs.declared.Property.the-variants.{Number, Empty, Item, Subnode, Absent, Refused}
 use Rattle.property.specs.Context.{properties, contextTest}
@@ -22,13 +22,13 @@ unfoldable pub valueOf : List ℕ → ℕ → ℕ → Property
 valueOf block type value =
     cond (inPlace type) (Number type value)
     (cond (eqb value 0) (Empty type)
-    (cond (eqb (value % 32) 0) (after Refused (demand (numberFits block value) badItem) (Item type value))
+    (cond (eqb (value % 32) 0) (after Refused (demand (itemFits block value) badItem) (Item type value))
     (Subnode type value)))
 
 -- the answer for a leaf record that is found, or for none
-abbrev pub said : List ℕ → Answer (List ℕ) → Property
-said block answer = read (λ entry. valueOf block (field entry 2 2) (field entry 4 4)) Absent Refused answer
+abbrev pub propertyFrom : List ℕ → Answer (List ℕ) → Property
+propertyFrom block answer = byCase (λ entry. valueOf block (field entry 2 2) (field entry 4 4)) Absent Refused answer
 
 -- the property lookup: "Root 0 means no properties"; "The descent chooses a record as the lookup chooses an entry"
 unfoldable pub property : List ℕ → ℕ → Property
-property block id = after Refused (contextTest block) (said block (fromRoot properties block (userRoot block) id))
+property block id = after Refused (contextTest block) (propertyFrom block (fromRoot properties block (userRoot block) id))

@@ -8,8 +8,8 @@ use Rattle.le.specs.Bytes.{Bytes}
 use Rattle.refusal.specs.declared.Verdict.the-variants.{Accepted}
 use Rattle.keys.specs.Plain.{All}
 use Rattle.keys.specs.Search.{fromKey}
-use Rattle.search.specs.Holds.{Says, AtMost}
-use Rattle.search.specs.Holds as search
+use Rattle.search.specs.Promises.{Says, AtMost}
+use Rattle.search.specs.Promises as search
 use Rattle.page.specs.declared.Layout.{Layout}
 use Rattle.page.specs.Layout.{compared}
 use Rattle.page.specs.Page.{keyIn}
@@ -17,8 +17,8 @@ use Rattle.tree.specs.Tree.{rootLevel, treeFits, scan}
 use Rattle.tree.specs.Lookup.{next}
 
 -- going from k on, each time one above the key found, until the call answers absent or no key stands above the one found: these entries
-abbrev pub Lists : Layout → List ℕ → ℕ → List (List ℕ) → Type 0
-Lists L image = search.Lists (next L image) (keyIn L) (256 ^ L .sought)
+abbrev pub TreeLists : Layout → List ℕ → ℕ → List (List ℕ) → Type 0
+TreeLists L image = search.Lists (next L image) (keyIn L) (256 ^ L .sought)
 
 -- what holds of every image whose header and tree are accepted
 pub record Listing (L : Layout) (image : List ℕ) : Type 0 where
@@ -36,4 +36,4 @@ FewPagesHolds = (L : Layout) (image : List ℕ) (from : ℕ) → AtMost (2 * roo
 
 -- going from 0 lists exactly the scan, in order, and ends; a key that stands in the tree can be sought
 abbrev pub ListsHolds : Type 0
-ListsHolds = (L : Layout) (image : List ℕ) → L .key ≤ L .sought → Bytes image → treeFits L image ≡ Accepted → Lists L image 0 (scan L image)
+ListsHolds = (L : Layout) (image : List ℕ) → L .key ≤ L .sought → Bytes image → treeFits L image ≡ Accepted → TreeLists L image 0 (scan L image)
