@@ -94,17 +94,15 @@ pub child-is : (shape : Shape) → shape .width + 4 ≤ shape .size → (to : En
 unfolding childOf
 child-is shape wide to n bytes i item range ei er = rw (ei, er, field-at shape bytes i (shape .width) 4 wide)
 
--- the child that is chosen, among the bytes of the branch's item
-module _ (tree : HeapTree) (block bytes : List ℕ) (branch : Branch) (same : bytes ≡ itemPart block (branch .item)) (key : ℕ) where
-  abbrev count : ℕ
-  count = recordCount (indexShape tree) bytes
-
+-- the child that is chosen, among `count` records, the bytes of the branch's item
+module _ (tree : HeapTree) (block : List ℕ) (branch : Branch) (key count : ℕ) (many : count ≡ recordCount (indexShape tree) (itemPart block (branch .item)))
+    (bytes : List ℕ) (same : bytes ≡ itemPart block (branch .item)) where
   abbrev kid : Range → List ℕ → Branch
   kid = childOf (tree .key)
 
   kids-are : (l : ℕ) → children (treeOn tree block) l branch ≡ offspring (recordKey tree) kid (branch .range .to) (records (indexShape tree) count bytes)
   unfolding children shapeAt recordsOf
-  kids-are l = rw same
+  kids-are l = rw (many, same)
 
   ranged : (r : Range) (e : List ℕ) → (kid r e) .range ≡ r
   unfolding childOf

@@ -1,16 +1,18 @@
 -- The descent, one item at a time. Assumes nothing.
 use Prim.Native.Nat.{ℕ, _-_}
-use mathlib.Core.Path.{_≡_, sym, subst}
+use mathlib.Core.Path.{_≡_, refl, sym, ap, _∙_, subst}
 use mathlib.Core.Bool.{true, false}
 use mathlib.Core.List.{List, [], _∷_}
+use native.Mathlib.Omega.{arith}
 use borrow.Author.Tests.{eq-eqb, ne-eqb}
 use Rattle.refusal.specs.declared.Refusal.{Refusal}
 use Rattle.refusal.specs.declared.Verdict.{Verdict}
 use Rattle.refusal.specs.declared.Verdict.the-variants.{Accepted, Refused}
 use Rattle.refusal.specs.Order.{AllHold, none, both, here, later}
-use Rattle.refusal.proofs.OrderLaws.{accepted-exactly, refused-exactly}
+use Rattle.refusal.proofs.OrderLaws.{goes, ends, accepted-exactly, refused-exactly}
 use Rattle.le.specs.Bytes.{byte, field}
 use Rattle.keys.specs.declared.End.the-variants.{Open}
+use Rattle.keys.specs.declared.Shape.{Shape}
 use Rattle.keys.specs.declared.Sought.the-variants.{Equal}
 use Rattle.keys.specs.Search.{withKey}
 use Rattle.search.specs.SearchTree.{test, children}
@@ -22,12 +24,15 @@ use Rattle.heap.proofs.ItemLaws.{number-exactly}
 use Rattle.heaptree.specs.declared.Branch.{Branch}
 use Rattle.heaptree.specs.declared.FoundRecord.{FoundRecord}
 use Rattle.heaptree.specs.declared.FoundRecord.the-variants as found
+use Rattle.heaptree.specs.declared.Held.the-variants as held
 use Rattle.heaptree.specs.declared.HeapTree.{HeapTree}
-use Rattle.heaptree.specs.Value.{badTree, leafShape, recordKey, shapeAt}
+use Rattle.heaptree.specs.Value.{badTree, leafShape, indexShape, recordKey, shapeAt}
 use Rattle.heaptree.specs.Root.{indexLevels, rootItem}
-use Rattle.heaptree.specs.Branches.{recordsFit, recordsOf, branchRules, treeOn}
+use Rattle.heaptree.specs.Branches.{recordCount, recordsFit, recordsOf, branchRules, treeOn}
 use Rattle.heaptree.specs.Lookup.{rootBranch, fromRoot, Shows}
+use Rattle.heaptree.specs.Steps.{heldIn}
 use Rattle.heaptree.proofs.ShownLaws.{nothing, wrong, shows-counted}
+use Rattle.heaptree.proofs.RecordLaws.{shape-leaf, shape-index}
 
 -- the test of an item, one rule at a time
 module _ (tree : HeapTree) (block : List ℕ) (levels : ℕ) (branch : Branch) where
@@ -58,6 +63,48 @@ module _ (tree : HeapTree) (block : List ℕ) (levels : ℕ) (branch : Branch) w
   pub branch-fits : test (treeOn tree block) levels branch ≡ Accepted → recordsFit (shapeAt tree levels) (branch .range) (itemPart block (branch .item)) ≡ true
   unfolding test
   branch-fits e = branch-both (accepted-exactly (branchRules tree block levels branch) .0 e) .1
+
+-- what an item holds, by its test, and the other way round
+module _ (tree : HeapTree) (block : List ℕ) (levels : ℕ) (branch : Branch) where
+  abbrev said : Verdict
+  said = test (treeOn tree block) levels branch
+
+  abbrev many : ℕ
+  many = recordCount (shapeAt tree levels) (itemPart block (branch .item))
+
+  pub held-refused : (r : Refusal) → said ≡ Refused r → held.Refused r ≡ heldIn tree block levels branch
+  unfolding heldIn
+  held-refused r e = sym (ends held.Refused said _ r e)
+
+  pub held-accepted : (n : ℕ) → said ≡ Accepted → n ≡ many → held.Records n ≡ heldIn tree block levels branch
+  unfolding heldIn
+  held-accepted n e q = ap held.Records q ∙ sym (goes held.Refused said _ e)
+
+  pub refused-held : (r : Refusal) → heldIn tree block levels branch ≡ held.Refused r → said ≡ Refused r
+  refused-held r e = by said refl
+    where
+      by : (v : Verdict) → said ≡ v → said ≡ Refused r
+      by Accepted q = let w = held-accepted many q refl in let clash : _≡_ {A = ℕ} 0 1 = cc in absurd (omega arith)
+      by (Refused s) q = let w = held-refused s q in let same : r ≡ s = cc in q ∙ ap Refused (sym same)
+
+  pub accepted-held : (n : ℕ) → heldIn tree block levels branch ≡ held.Records n → (said ≡ Accepted) × (n ≡ many)
+  accepted-held n e = by said refl
+    where
+      by : (v : Verdict) → said ≡ v → (said ≡ Accepted) × (n ≡ many)
+      by Accepted q = let w = held-accepted many q refl in (q, cc)
+      by (Refused s) q = let w = held-refused s q in let clash : _≡_ {A = ℕ} 0 1 = cc in absurd (omega arith)
+
+  pub leaf-held : (n : ℕ) → heldIn tree block levels branch ≡ held.Records n → levels ≡ 0
+      → Numbered block (branch .item) × (n ≡ recordCount (leafShape tree) (itemPart block (branch .item)))
+  leaf-held n e h =
+      let a = accepted-held n e in
+      (branch-numbered tree block levels branch (a .0), a .1 ∙ ap (λ (s : Shape). recordCount s (itemPart block (branch .item))) (sym (shape-leaf tree levels h)))
+
+  pub index-held : (n : ℕ) → heldIn tree block levels branch ≡ held.Records n → (levels ≡ 0 → ⊥)
+      → Numbered block (branch .item) × (n ≡ recordCount (indexShape tree) (itemPart block (branch .item)))
+  index-held n e h =
+      let a = accepted-held n e in
+      (branch-numbered tree block levels branch (a .0), a .1 ∙ ap (λ (s : Shape). recordCount s (itemPart block (branch .item))) (sym (shape-index tree levels h)))
 
 -- v is what the test of the item said
 module _ (tree : HeapTree) (block : List ℕ) (key : ℕ) (branch : Branch) (v : Verdict) (levels : ℕ) (t : v ≡ test (treeOn tree block) levels branch) where

@@ -9,20 +9,19 @@ use refusal::Refusal;
 use refusal::Verdict;
 ghost use mathlib.Core.Path.{_≡_};
 ghost use Prim.Native.Nat.{_+_, _≤_, _<_};
-ghost use Rattle.refusal.specs.Order.{inOrder};
+ghost use Rattle.refusal.specs.Order.{_at_, inOrder};
 ghost use Rattle.keys.specs.Records.{keyOf, RecordsIn};
 ghost use Rattle.keys.specs.Search.{withKey};
-ghost use Rattle.search.specs.SearchTree.{test};
 ghost use Rattle.search.specs.Answer.{answer};
 ghost use Rattle.search.specs.Descent.{descend};
 ghost use Rattle.search.proofs.Records.{childAt};
 ghost use Rattle.heap.specs.Shape.{Heap};
 ghost use Rattle.heap.specs.Items.{Numbered, itemPart};
-ghost use Rattle.heaptree.specs.Value.{FairTree, leafShape, shapeAt, recordKey};
+ghost use Rattle.heaptree.specs.Value.{FairTree, leafShape, indexShape, shapeAt, recordKey};
 ghost use Rattle.heaptree.specs.Root.{rootFits, rootRules, Rooted};
 ghost use Rattle.heaptree.specs.Branches.{recordCount, recordsFit, recordsOf, childOf, treeOn};
 ghost use Rattle.heaptree.specs.Lookup.{fromRoot, Shows};
-ghost use Rattle.heaptree.specs.Steps.{ChosenIs};
+ghost use Rattle.heaptree.specs.Steps.{heldIn, ChosenIs};
 
 // What a tree on a heap is told by: how many bytes its keys and its entries have, and the fault of a wrong shape.
 pub struct HeapTree {
@@ -35,6 +34,12 @@ pub struct HeapTree {
 pub struct Branch {
     pub item: u32,
     pub range: Range,
+}
+
+// How many records an item holds that has passed its tests; or the refusal.
+pub enum Held {
+    Records(usize),
+    Refused(Refusal),
 }
 
 pub enum Chosen {
@@ -94,43 +99,57 @@ fn shape_at(tree: HeapTree, levels: usize) -> Shape
     }
 }
 
-// Whether an item holds records of this shape, their keys ascending in the range.
-fn records_fit(bytes: &[u8], shape: Shape, range: Range) -> bool
-    requires { ⌜ (0 < shape .size) × (shape .width ≤ shape .size) × (shape .width ≤ 8) ⌝ }
+// Whether an item, which holds so many records of this shape, is whole, and their keys ascend in the range.
+fn records_fit(bytes: &[u8], shape: Shape, count: usize, range: Range) -> bool
+    requires { ⌜ (0 < shape .size) × (shape .width ≤ shape .size) × (shape .width ≤ 8) × (count ≡ recordCount shape (now bytes)) ⌝ }
     ensures { λ r. ⌜ r ≡ recordsFit shape range (now (bytes .entry)) ⌝ }
 {
     let size = shape.size;
-    let order = keys::check_keys(bytes, shape, bytes.len() / size, range);
+    let order = keys::check_keys(bytes, shape, count, range);
     (1 <= bytes.len()) & (bytes.len() % size == 0) & keys::is_climbing(order)
 }
 
+fn refused_held(fault: Fault) -> Held
+    ensures { λ r. ⌜ r ≡ Held.Refused (fault at 0) ⌝ }
+{
+    Held::Refused(Refusal {
+        fault,
+        place: 0,
+        more: 0,
+    })
+}
+
 // An item of the tree: 19 for its number, then the tree's fault for its shape.
-fn check_branch(block: &[u8], tree: HeapTree, levels: usize, branch: Branch) -> Verdict
+fn check_branch(block: &[u8], tree: HeapTree, levels: usize, branch: Branch) -> Held
     requires { ⌜ Heap (now block) × FairTree tree ⌝ }
-    ensures { λ r. ⌜ r ≡ test (treeOn tree (now (block .entry))) levels branch ⌝ }
+    ensures { λ r. ⌜ r ≡ heldIn tree (now (block .entry)) levels branch ⌝ }
 {
     let item = branch.item;
     if !heap::item_fits(block, item) {
-        return refusal::refused_at(Fault::HeapItem, 0);
+        return refused_held(Fault::HeapItem);
     }
     let fault = tree.fault;
     let range = branch.range;
-    if !records_fit(heap::part_of(block, item), shape_at(tree, levels), range) {
-        return refusal::refused_at(fault, 0);
+    let records = heap::part_of(block, item);
+    let shape = shape_at(tree, levels);
+    let size = shape.size;
+    let count = records.len() / size;
+    if !records_fit(records, shape, count, range) {
+        return refused_held(fault);
     }
-    Verdict::Accepted
+    Held::Records(count)
 }
 
-// Where the leaf record with the key stands, in an accepted leaf item.
-fn find_in_leaf(block: &[u8], tree: HeapTree, key: u64, item: u32) -> FoundRecord
-    requires { ⌜ Heap (now block) × Numbered (now block) item × FairTree tree ⌝ }
+// Where the leaf record with the key stands, in an accepted leaf item of so many records.
+fn find_in_leaf(block: &[u8], tree: HeapTree, key: u64, item: u32, count: usize) -> FoundRecord
+    requires { ⌜ Heap (now block) × Numbered (now block) item × FairTree tree × (count ≡ recordCount (leafShape tree) (itemPart (now block) item)) ⌝ }
     ensures { λ r. ⌜ Shows tree (now (block .entry)) r (answer (withKey (recordKey tree) key (recordsOf (leafShape tree) (itemPart (now (block .entry)) item))) 1) ⌝ }
 {
     let records = heap::part_of(block, item);
     let width = tree.key;
     let size = width + tree.entry;
     let shape = Shape { size, width };
-    let seat = keys::first_that(records, shape, records.len() / size, Sought::Equal, key);
+    let seat = keys::first_that(records, shape, count, Sought::Equal, key);
     let Seat::At(i) = seat else {
         return FoundRecord::Absent;
     };
@@ -149,9 +168,9 @@ fn child_at(records: &[u8], shape: Shape, count: usize, i: usize, to: End) -> Br
     Branch { item, range }
 }
 
-// The child of an accepted index item under which the key must stand.
-fn choose_child(block: &[u8], tree: HeapTree, key: u64, branch: Branch) -> Chosen
-    requires { ⌜ Heap (now block) × Numbered (now block) (branch .item) × FairTree tree ⌝ }
+// The child of an accepted index item of so many records under which the key must stand.
+fn choose_child(block: &[u8], tree: HeapTree, key: u64, branch: Branch, count: usize) -> Chosen
+    requires { ⌜ Heap (now block) × Numbered (now block) (branch .item) × FairTree tree × (count ≡ recordCount (indexShape tree) (itemPart (now block) (branch .item))) ⌝ }
     ensures { λ r. ⌜ ChosenIs tree (now (block .entry)) key branch r ⌝ }
 {
     let item = branch.item;
@@ -161,7 +180,6 @@ fn choose_child(block: &[u8], tree: HeapTree, key: u64, branch: Branch) -> Chose
     let width = tree.key;
     let size = width + 4;
     let shape = Shape { size, width };
-    let count = records.len() / size;
     let seat = keys::last_at_most(records, shape, count, key);
     let Seat::At(i) = seat else {
         return Chosen::Nobody;
@@ -174,15 +192,17 @@ fn find_under(block: &[u8], tree: HeapTree, key: u64, levels: usize, branch: Bra
     requires { ⌜ Heap (now block) × FairTree tree ⌝ }
     ensures { λ r. ⌜ Shows tree (now (block .entry)) r (descend (treeOn tree (now (block .entry))) Sought.Equal key levels branch) ⌝ }
 {
-    let verdict = check_branch(block, tree, levels, branch);
-    if let Verdict::Refused(refusal) = verdict {
-        return FoundRecord::Refused(refusal);
-    }
+    let count = match check_branch(block, tree, levels, branch) {
+        Held::Records(count) => count,
+        Held::Refused(refusal) => {
+            return FoundRecord::Refused(refusal);
+        }
+    };
     let item = branch.item;
     if levels == 0 {
-        return find_in_leaf(block, tree, key, item);
+        return find_in_leaf(block, tree, key, item, count);
     }
-    let chosen = choose_child(block, tree, key, branch);
+    let chosen = choose_child(block, tree, key, branch, count);
     let Chosen::Child(child) = chosen else {
         return FoundRecord::Absent;
     };

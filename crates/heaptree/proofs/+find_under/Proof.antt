@@ -1,9 +1,9 @@
-use mathlib.Core.Path.{sym, ap, _∙_}
+use mathlib.Core.Path.{refl, sym, ap, _∙_}
 use Prim.Native.Nat.{_-_}
 use native.Mathlib.Omega.{arith}
 use borrow.Author.Needs.{needs}
 use Rattle.heaptree.specs.Steps.{chosenIn}
-use Rattle.heaptree.proofs.StepLaws.{branch-numbered, under-fault, under-leaf, under-absent, under-on}
+use Rattle.heaptree.proofs.StepLaws.{refused-held, accepted-held, leaf-held, index-held, under-fault, under-leaf, under-absent, under-on}
 use Prim.Native.Nat.{ℕ, _<_}
 use borrow.Fn.Kinds.{In}
 use borrow.Fn.PlainCycle.{Measures, is, falls, and}
@@ -42,26 +42,28 @@ pub +find-under-spec : {M : Type 1} → statement M
     find-under.Post
     (λ c κs. c .before .pre .1)
     (λ c. search needs)
-    (λ c.
-    let a = c .before .before .before .before .before .args in
-    under-fault (a .tree) (a .block .now) (a .key) (a .branch) _ (a .levels) (c .before .before .before .check-branch .ensures) _ (c .before .verdict .given .1))
     (λ c. search needs)
-    (λ c κs.
-    let a = c .before .before .before .before .before .args in
-    (c .before .before .before .before .before .pre .1 .0, branch-numbered (a .tree) (a .block .now) (a .levels) (a .branch) (sym (c .before .before .before .check-branch .ensures) ∙ c .before .enum-told .given .1), c .before .before .before .before .before .pre .1 .1))
     (λ c.
+    let a = c .before .before .before .before .before .args in
+    under-fault (a .tree) (a .block .now) (a .key) (a .branch) _ (a .levels) refl _ (refused-held (a .tree) (a .block .now) (a .levels) (a .branch) _ (sym (c .before .before .before .check-branch .ensures) ∙ c .before .refusal .given .1)))
+    (λ c κs.
     let a = c .before .before .before .before .before .before .args in
-    under-leaf (a .tree) (a .block .now) (a .key) (a .branch) _ (a .levels) (c .before .before .before .before .check-branch .ensures) _ (c .before .if1 .taken) (c .before .before .enum-told .given .1) (c .find-in-leaf .ensures))
+    let h = leaf-held (a .tree) (a .block .now) (a .levels) (a .branch) _ (sym (c .before .before .before .before .check-branch .ensures) ∙ c .before .before .count .given .1) (c .if1 .taken) in
+    (c .before .before .before .before .before .before .pre .1 .0, h .0, c .before .before .before .before .before .before .pre .1 .1, h .1))
+    (λ c.
+    let a = c .before .before .before .before .before .before .before .args in
+    under-leaf (a .tree) (a .block .now) (a .key) (a .branch) _ (a .levels) refl _ (c .before .if1 .taken) (accepted-held (a .tree) (a .block .now) (a .levels) (a .branch) _ (sym (c .before .before .before .before .before .check-branch .ensures) ∙ c .before .before .before .count .given .1) .0) (c .find-in-leaf .ensures))
     (λ c κs.
-    let a = c .before .before .before .before .before .args in
-    (c .before .before .before .before .before .pre .1 .0, branch-numbered (a .tree) (a .block .now) (a .levels) (a .branch) (sym (c .before .before .before .check-branch .ensures) ∙ c .before .enum-told .given .1), c .before .before .before .before .before .pre .1 .1))
+    let a = c .before .before .before .before .before .before .args in
+    let h = index-held (a .tree) (a .block .now) (a .levels) (a .branch) _ (sym (c .before .before .before .before .check-branch .ensures) ∙ c .before .before .count .given .1) (c .if1 .left) in
+    (c .before .before .before .before .before .before .pre .1 .0, h .0, c .before .before .before .before .before .before .pre .1 .1, h .1))
     (λ c. search needs)
     (λ c. search needs)
     (λ c.
-    let a = c .before .before .before .before .before .before .before .before .args in
-    under-absent (a .tree) (a .block .now) (a .key) (a .branch) _ (a .levels) (c .before .before .before .before .before .before .check-branch .ensures) (c .before .before .before .if1 .left) (c .before .before .before .before .enum-told .given .1) (sym (ap chosenIn (c .enum-told2 .given .1)) ∙ c .before .before .choose-child .ensures (a .levels - 1)))
+    let a = c .before .before .before .before .before .before .before .before .before .args in
+    under-absent (a .tree) (a .block .now) (a .key) (a .branch) _ (a .levels) refl (c .before .before .before .if1 .left) (accepted-held (a .tree) (a .block .now) (a .levels) (a .branch) _ (sym (c .before .before .before .before .before .before .before .check-branch .ensures) ∙ c .before .before .before .before .before .count .given .1) .0) (sym (ap chosenIn (c .enum-told .given .1)) ∙ c .before .before .choose-child .ensures (a .levels - 1)))
     (λ c. omega arith)
-    (λ c κs. (omega (arith, c .before .before .before .before .before .before .before .before .before .pre .0), c .before .before .before .before .before .before .before .before .before .pre .1))
+    (λ c κs. (omega (arith, c .before .before .before .before .before .before .before .before .before .before .pre .0), c .before .before .before .before .before .before .before .before .before .before .pre .1))
     (λ c.
-    let a = c .before .before .before .before .before .before .before .before .before .before .args in
-    under-on (a .tree) (a .block .now) (a .key) (a .branch) _ (a .levels) (c .before .before .before .before .before .before .before .before .check-branch .ensures) (c .before .before .before .before .before .if1 .left) (c .before .before .before .before .before .before .enum-told .given .1) _ (c .before .before .chosen .given .0 .0) (sym (ap chosenIn (c .before .before .chosen .given .1)) ∙ c .before .before .before .before .choose-child .ensures (a .levels - 1)) (c .find-under .ensures))
+    let a = c .before .before .before .before .before .before .before .before .before .before .before .args in
+    under-on (a .tree) (a .block .now) (a .key) (a .branch) _ (a .levels) refl (c .before .before .before .before .before .if1 .left) (accepted-held (a .tree) (a .block .now) (a .levels) (a .branch) _ (sym (c .before .before .before .before .before .before .before .before .before .check-branch .ensures) ∙ c .before .before .before .before .before .before .before .count .given .1) .0) _ (c .before .before .chosen .given .0 .0) (sym (ap chosenIn (c .before .before .chosen .given .1)) ∙ c .before .before .before .before .choose-child .ensures (a .levels - 1)) (c .find-under .ensures))

@@ -1,4 +1,4 @@
-use mathlib.Core.Path.{_≡_, sym, ap, _∙_}
+use mathlib.Core.Path.{_≡_, sym, ap₂, _∙_}
 use Prim.Native.Nat.{ℕ}
 use mathlib.Core.List.{List}
 use native.Mathlib.Omega.{arith}
@@ -16,24 +16,25 @@ use borrow.Author.Needs.{needs}
 use Rattle.heaptree.proofs.find_in_leaf.Statement.{statement}
 use Rattle.heaptree.proofs.find_in_leaf.Tie as tie
 
-abbrev seatIn : HeapTree → ℕ → List ℕ → Seat
-seatIn tree key bytes = firstThat Equal key (keysOf (leafShape tree) (recordCount (leafShape tree) bytes) bytes)
+abbrev seatIn : HeapTree → ℕ → ℕ → List ℕ → Seat
+seatIn tree key count bytes = firstThat Equal key (keysOf (leafShape tree) count bytes)
 
 first-that-requires : tie.Need-first-that-requires
-unfolding recordCount
-first-that-requires c κs = records-hold (leafShape (c .before .before .before .args .tree)) (c .before .part-of .result .now) (omega arith) (c .before .before .before .pre .2 .1)
+first-that-requires c κs =
+    let a = c .before .before .before .args in
+    rw (c .before .part-of .ensures, c .before .before .before .pre .3) (records-hold (leafShape (a .tree)) (itemPart (a .block .now) (a .item)) (omega arith) (c .before .before .before .pre .2 .1))
 
 -- the seat that was found among the bytes that were read is one in the item
-sought : (c : tie.After-known-told) → At (c .before .seat .given .0 .0) ≡ seatIn (c .before .before .before .before .before .before .before .args .tree) (c .before .before .before .before .before .before .before .args .key) (itemPart (c .before .before .before .before .before .before .before .args .block .now) (c .before .before .before .before .before .before .before .args .item))
-unfolding recordCount
-sought c = sym (c .before .seat .given .1) ∙ c .before .before .before .first-that .ensures ∙ ap (seatIn (c .before .before .before .before .before .before .before .args .tree) (c .before .before .before .before .before .before .before .args .key)) (c .before .before .before .before .before .part-of .ensures)
+sought : (c : tie.After-known-told) → At (c .before .seat .given .0 .0) ≡ seatIn (c .before .before .before .before .before .before .before .args .tree) (c .before .before .before .before .before .before .before .args .key) (recordCount (leafShape (c .before .before .before .before .before .before .before .args .tree)) (itemPart (c .before .before .before .before .before .before .before .args .block .now) (c .before .before .before .before .before .before .before .args .item))) (itemPart (c .before .before .before .before .before .before .before .args .block .now) (c .before .before .before .before .before .before .before .args .item))
+sought c =
+    let a = c .before .before .before .before .before .before .before .args in
+    sym (c .before .seat .given .1) ∙ c .before .before .before .first-that .ensures ∙ ap₂ (seatIn (a .tree) (a .key)) (c .before .before .before .before .before .before .before .pre .3) (c .before .before .before .before .before .part-of .ensures)
 
 returns : tie.Need-returns
-unfolding recordCount
 returns c =
     let a = c .before .before .before .before .before .before .args in
     leaf-none (a .tree) (a .block .now) (c .before .before .before .before .before .before .pre .0) (a .item) (c .before .before .before .before .before .before .pre .1) (a .key)
-    (sym (c .enum-told .given .1) ∙ c .before .before .first-that .ensures ∙ ap (seatIn (a .tree) (a .key)) (c .before .before .before .before .part-of .ensures))
+    (sym (c .enum-told .given .1) ∙ c .before .before .first-that .ensures ∙ ap₂ (seatIn (a .tree) (a .key)) (c .before .before .before .before .before .before .pre .3) (c .before .before .before .before .part-of .ensures))
 
 returns-2 : tie.Need-returns-2
 returns-2 c =
@@ -46,7 +47,6 @@ find-in-leaf-spec =
     tie.close
     (tie.spec
     (λ c κs. search needs)
-    (λ c. search needs)
     (λ c. search needs)
     first-that-requires
     (λ c. search needs)
