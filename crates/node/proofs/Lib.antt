@@ -3,3 +3,4 @@ pub mod Kids
 pub mod Running
 pub mod Outcomes
 pub mod Exactly
+pub mod TriedLaws
