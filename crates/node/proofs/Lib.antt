@@ -4,3 +4,4 @@ pub mod Running
 pub mod Outcomes
 pub mod Exactly
 pub mod TriedLaws
+pub mod Most
