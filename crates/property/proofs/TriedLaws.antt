@@ -23,7 +23,7 @@ use Rattle.property.specs.Context.{properties, contextRules, contextTest
 use Rattle.property.specs.Lookup.{inPlace, valueOf, valueFits, valueRules, propertyRules, propertyFrom, property}
 
 -- the refusal of an answer, if it is one
-unfoldable refusalIn : Property → Verdict
+unfoldable pub refusalIn : Property → Verdict
 refusalIn (Number type value) = verdict.Accepted
 refusalIn (Empty type) = verdict.Accepted
 refusalIn (Item type item) = verdict.Accepted
@@ -75,6 +75,13 @@ module _ (block : List ℕ) where
       ∙ ap (λ v. inOrder before then v) (in-order-append path (valueRules block answer)
       ∙ ap (λ v. v then inOrder (valueRules block answer)) (path-tried properties block (userRoot block) id) ∙ answer-tried answer)
       ∙ sym (refusal-after (inOrder before) (propertyFrom block answer))
+
+  -- answered, or absent, exactly when each rule holds
+  pub property-answered-exactly : (id : ℕ) → (refusalIn (property block id) ≡ verdict.Accepted) ↔ AllHold (propertyRules block id)
+  property-answered-exactly id = (
+    (λ e. accepted-exactly (propertyRules block id) .0 (property-tried id ∙ e)),
+    (λ h. sym (property-tried id) ∙ accepted-exactly (propertyRules block id) .1 h),
+  )
 
   -- refused exactly with the first fault
   pub property-refused-exactly : (id : ℕ) (r : Refusal) → (property block id ≡ Refused r) ↔ FirstFault (propertyRules block id) r
