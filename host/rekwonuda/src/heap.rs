@@ -1,4 +1,5 @@
-use crate::{sys, Refusal};
+use crate::refusal::{answered, Refusal};
+use rekwonuda_sys as sys;
 
 /// The bytes of one block with a heap on it, decoded, as [`Image::read_block`] hands them out.
 ///
@@ -33,24 +34,24 @@ pub enum Value {
 impl<'a> Heap<'a> {
     /// Tests the shape of the heap. Refusal 18.
     pub fn test_heap(&self) -> Result<(), Refusal> {
-        sys::test_heap(self.0).map(|_| ())
+        answered(sys::test_heap(self.0)).map(|_| ())
     }
 
     /// Tests the heap and then the number of an item. Refusals 18 and 19.
     pub fn test_item(&self, item: u32) -> Result<(), Refusal> {
-        sys::test_item(self.0, item).map(|_| ())
+        answered(sys::test_item(self.0, item)).map(|_| ())
     }
 
     /// The bytes of an item, as a part of the block. Refusals 18 and 19.
     pub fn item(&self, item: u32) -> Result<&'a [u8], Refusal> {
-        let answer = sys::item(self.0, item)?;
+        let answer = answered(sys::item(self.0, item))?;
         let start = answer.start as usize;
         Ok(&self.0[start..start + answer.length as usize])
     }
 
     /// Looks up a property by its id; `None` where it is absent. Refusals 18 to 20.
     pub fn find_property(&self, id: u16) -> Result<Option<Property>, Refusal> {
-        let answer = sys::find_property(self.0, id)?;
+        let answer = answered(sys::find_property(self.0, id))?;
         let number = answer.value as u32;
         let value = match answer.kind {
             0 => Value::Number(number),

@@ -1,4 +1,5 @@
-use crate::{sys, Refusal};
+use crate::refusal::{answered, Refusal};
+use rekwonuda_sys as sys;
 
 /// The bytes of a .pst file, from its first.
 ///
@@ -83,7 +84,7 @@ fn is_internal(block: u64) -> bool {
 impl<'a> Image<'a> {
     /// Tests the header and says what stands in it. Refusals 1 to 5.
     pub fn header(&self) -> Result<Header, Refusal> {
-        let answer = sys::header(self.0)?;
+        let answer = answered(sys::header(self.0))?;
         Ok(Header {
             method: answer.method as u8,
             nodes: PageReference {
@@ -99,32 +100,32 @@ impl<'a> Image<'a> {
 
     /// Checks the header and then the whole node tree. Refusals 1 to 11.
     pub fn check_nodes(&self) -> Result<(), Refusal> {
-        sys::check_nodes(self.0).map(|_| ())
+        answered(sys::check_nodes(self.0)).map(|_| ())
     }
 
     /// Checks the header and then the whole block tree. Refusals 1 to 11.
     pub fn check_blocks(&self) -> Result<(), Refusal> {
-        sys::check_blocks(self.0).map(|_| ())
+        answered(sys::check_blocks(self.0)).map(|_| ())
     }
 
     /// Looks up a node by the low four bytes of its number. Refusals 1 to 11.
     pub fn find_node(&self, node: u64) -> Result<Lookup<Node>, Refusal> {
-        sys::find_node(self.0, node).map(node_lookup)
+        answered(sys::find_node(self.0, node)).map(node_lookup)
     }
 
     /// Looks up a block by its number. Refusals 1 to 11.
     pub fn find_block(&self, block: u64) -> Result<Lookup<Block>, Refusal> {
-        sys::find_block(self.0, block).map(block_lookup)
+        answered(sys::find_block(self.0, block)).map(block_lookup)
     }
 
     /// Looks up the first node whose number is at least `from`. Refusals 1 to 11.
     pub fn next_node(&self, from: u64) -> Result<Lookup<Node>, Refusal> {
-        sys::next_node(self.0, from).map(node_lookup)
+        answered(sys::next_node(self.0, from)).map(node_lookup)
     }
 
     /// Looks up the first block whose number is at least `from`. Refusals 1 to 11.
     pub fn next_block(&self, from: u64) -> Result<Lookup<Block>, Refusal> {
-        sys::next_block(self.0, from).map(block_lookup)
+        answered(sys::next_block(self.0, from)).map(block_lookup)
     }
 
     /// All nodes in the order of their numbers. A refusal comes last.
@@ -146,20 +147,20 @@ impl<'a> Image<'a> {
     /// Looks up a block, tests its place, trailer and checksum, and says how many bytes it holds.
     /// Refusals 1 to 15.
     pub fn test_block(&self, block: u64) -> Result<u64, Refusal> {
-        sys::test_block(self.0, block).map(|answer| answer.size)
+        answered(sys::test_block(self.0, block)).map(|answer| answer.size)
     }
 
     /// Tests a block and puts its bytes at the front of `out`, decoded; says how many they are.
     /// Internal blocks are never encoded and come as they are stored. What follows in `out` stays as
     /// it was. Refusals 1 to 15, and 17.
     pub fn read_block(&self, block: u64, out: &mut [u8]) -> Result<usize, Refusal> {
-        sys::read_block(self.0, block, out).map(|answer| answer.length as usize)
+        answered(sys::read_block(self.0, block, out)).map(|answer| answer.length as usize)
     }
 
     /// Looks up a node and puts its data at the front of `out`; says how many bytes they are, or
     /// `None` where the node is absent. What follows in `out` stays as it was. Refusals 1 to 17.
     pub fn read_node(&self, node: u64, out: &mut [u8]) -> Result<Option<usize>, Refusal> {
-        let answer = sys::read_node(self.0, node, out)?;
+        let answer = answered(sys::read_node(self.0, node, out))?;
         Ok((answer.found == 1).then_some(answer.length as usize))
     }
 

@@ -13,16 +13,18 @@
 //! assert_eq!(node.data, 76);
 //! ```
 #![deny(missing_docs)]
-#![deny(unsafe_code)]
+#![forbid(unsafe_code)]
 
 mod heap;
 mod image;
 mod refusal;
-mod sys;
 
 pub use heap::{Heap, Property, Value};
 pub use image::{Block, Blocks, Header, Image, Lookup, Node, Nodes, PageReference};
 pub use refusal::Refusal;
+
+use refusal::answered;
+use rekwonuda_sys as sys;
 
 /// The longest image that the library takes, in bytes.
 pub const LONGEST_IMAGE: u64 = 1 << 30;
@@ -30,12 +32,12 @@ pub const LONGEST_IMAGE: u64 = 1 << 30;
 /// Encodes `bytes` in place as the data of that block: method 0 leaves them, 1 is permute, 2 is
 /// cyclic. Refusal 5 for any other method.
 pub fn encode(method: u8, block: u64, bytes: &mut [u8]) -> Result<(), Refusal> {
-    sys::encode(method, block, bytes).map(|_| ())
+    answered(sys::encode(method, block, bytes)).map(|_| ())
 }
 
 /// Decodes `bytes` in place as the data of that block; undoes [`encode`]. Refusal 5 as there.
 pub fn decode(method: u8, block: u64, bytes: &mut [u8]) -> Result<(), Refusal> {
-    sys::decode(method, block, bytes).map(|_| ())
+    answered(sys::decode(method, block, bytes)).map(|_| ())
 }
 
 /// The checksum of the bytes: polynomial EDB88320 hex, reflected, start 0, no inversion.

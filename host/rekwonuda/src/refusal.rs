@@ -1,3 +1,4 @@
+use rekwonuda_sys::Answered;
 use std::error::Error;
 use std::fmt;
 
@@ -10,6 +11,18 @@ pub struct Refusal {
     pub place: u64,
     /// For number 17 the length needed, otherwise 0.
     pub more: u64,
+}
+
+/// The answer, or the refusal that it carries.
+pub(crate) fn answered<T: Answered>(answer: T) -> Result<T, Refusal> {
+    match answer.refusal() {
+        [0, _, _] => Ok(answer),
+        [number, place, more] => Err(Refusal {
+            number,
+            place,
+            more,
+        }),
+    }
 }
 
 impl Refusal {

@@ -1,28 +1,28 @@
 //! The calls of `include/rekwonuda.h`, each lent its slices as a pointer and a length.
 //!
-//! This is the only file with `unsafe`. Every pointer here comes with its length from one slice, so
+//! This is the only crate with `unsafe`. Every pointer here comes with its length from one slice, so
 //! that both are true while the call runs; `out` is a `&mut` slice, so that nothing overlaps it. The
 //! pointer of an empty slice is not null. No call asks for more than that.
-#![allow(unsafe_code)]
 
-use crate::Refusal;
+/// What every answer but a bare number begins with.
+pub trait Answered {
+    /// The fields `refusal`, `place` and `more`; the first is 0 where the call is answered.
+    fn refusal(&self) -> [u64; 3];
+}
 
 macro_rules! answers {
     ($($name:ident { $($field:ident),* })*) => {$(
         #[repr(C)]
         pub struct $name {
-            refusal: u64,
-            place: u64,
-            more: u64,
+            pub refusal: u64,
+            pub place: u64,
+            pub more: u64,
             $(pub $field: u64,)*
         }
 
-        impl $name {
-            fn answered(self) -> Result<Self, Refusal> {
-                match self.refusal {
-                    0 => Ok(self),
-                    number => Err(Refusal { number, place: self.place, more: self.more }),
-                }
+        impl Answered for $name {
+            fn refusal(&self) -> [u64; 3] {
+                [self.refusal, self.place, self.more]
             }
         }
     )*};
@@ -74,39 +74,39 @@ extern "C" {
     fn rkw_room(size: u32) -> u64;
 }
 
-pub fn header(image: &[u8]) -> Result<HeaderAnswer, Refusal> {
-    unsafe { rkw_header(image.as_ptr(), image.len()) }.answered()
+pub fn header(image: &[u8]) -> HeaderAnswer {
+    unsafe { rkw_header(image.as_ptr(), image.len()) }
 }
 
-pub fn check_nodes(image: &[u8]) -> Result<Answer, Refusal> {
-    unsafe { rkw_check_nodes(image.as_ptr(), image.len()) }.answered()
+pub fn check_nodes(image: &[u8]) -> Answer {
+    unsafe { rkw_check_nodes(image.as_ptr(), image.len()) }
 }
 
-pub fn check_blocks(image: &[u8]) -> Result<Answer, Refusal> {
-    unsafe { rkw_check_blocks(image.as_ptr(), image.len()) }.answered()
+pub fn check_blocks(image: &[u8]) -> Answer {
+    unsafe { rkw_check_blocks(image.as_ptr(), image.len()) }
 }
 
-pub fn find_node(image: &[u8], node: u64) -> Result<NodeAnswer, Refusal> {
-    unsafe { rkw_find_node(image.as_ptr(), image.len(), node) }.answered()
+pub fn find_node(image: &[u8], node: u64) -> NodeAnswer {
+    unsafe { rkw_find_node(image.as_ptr(), image.len(), node) }
 }
 
-pub fn find_block(image: &[u8], block: u64) -> Result<BlockAnswer, Refusal> {
-    unsafe { rkw_find_block(image.as_ptr(), image.len(), block) }.answered()
+pub fn find_block(image: &[u8], block: u64) -> BlockAnswer {
+    unsafe { rkw_find_block(image.as_ptr(), image.len(), block) }
 }
 
-pub fn next_node(image: &[u8], from: u64) -> Result<NodeAnswer, Refusal> {
-    unsafe { rkw_next_node(image.as_ptr(), image.len(), from) }.answered()
+pub fn next_node(image: &[u8], from: u64) -> NodeAnswer {
+    unsafe { rkw_next_node(image.as_ptr(), image.len(), from) }
 }
 
-pub fn next_block(image: &[u8], from: u64) -> Result<BlockAnswer, Refusal> {
-    unsafe { rkw_next_block(image.as_ptr(), image.len(), from) }.answered()
+pub fn next_block(image: &[u8], from: u64) -> BlockAnswer {
+    unsafe { rkw_next_block(image.as_ptr(), image.len(), from) }
 }
 
-pub fn test_block(image: &[u8], block: u64) -> Result<SizeAnswer, Refusal> {
-    unsafe { rkw_test_block(image.as_ptr(), image.len(), block) }.answered()
+pub fn test_block(image: &[u8], block: u64) -> SizeAnswer {
+    unsafe { rkw_test_block(image.as_ptr(), image.len(), block) }
 }
 
-pub fn read_block(image: &[u8], block: u64, out: &mut [u8]) -> Result<LengthAnswer, Refusal> {
+pub fn read_block(image: &[u8], block: u64, out: &mut [u8]) -> LengthAnswer {
     unsafe {
         rkw_read_block(
             image.as_ptr(),
@@ -116,10 +116,9 @@ pub fn read_block(image: &[u8], block: u64, out: &mut [u8]) -> Result<LengthAnsw
             out.len(),
         )
     }
-    .answered()
 }
 
-pub fn read_node(image: &[u8], node: u64, out: &mut [u8]) -> Result<DataAnswer, Refusal> {
+pub fn read_node(image: &[u8], node: u64, out: &mut [u8]) -> DataAnswer {
     unsafe {
         rkw_read_node(
             image.as_ptr(),
@@ -129,31 +128,30 @@ pub fn read_node(image: &[u8], node: u64, out: &mut [u8]) -> Result<DataAnswer, 
             out.len(),
         )
     }
-    .answered()
 }
 
-pub fn encode(method: u8, block: u64, bytes: &mut [u8]) -> Result<Answer, Refusal> {
-    unsafe { rkw_encode(method, block, bytes.as_mut_ptr(), bytes.len()) }.answered()
+pub fn encode(method: u8, block: u64, bytes: &mut [u8]) -> Answer {
+    unsafe { rkw_encode(method, block, bytes.as_mut_ptr(), bytes.len()) }
 }
 
-pub fn decode(method: u8, block: u64, bytes: &mut [u8]) -> Result<Answer, Refusal> {
-    unsafe { rkw_decode(method, block, bytes.as_mut_ptr(), bytes.len()) }.answered()
+pub fn decode(method: u8, block: u64, bytes: &mut [u8]) -> Answer {
+    unsafe { rkw_decode(method, block, bytes.as_mut_ptr(), bytes.len()) }
 }
 
-pub fn test_heap(block: &[u8]) -> Result<Answer, Refusal> {
-    unsafe { rkw_test_heap(block.as_ptr(), block.len()) }.answered()
+pub fn test_heap(block: &[u8]) -> Answer {
+    unsafe { rkw_test_heap(block.as_ptr(), block.len()) }
 }
 
-pub fn test_item(block: &[u8], item: u32) -> Result<Answer, Refusal> {
-    unsafe { rkw_test_item(block.as_ptr(), block.len(), item) }.answered()
+pub fn test_item(block: &[u8], item: u32) -> Answer {
+    unsafe { rkw_test_item(block.as_ptr(), block.len(), item) }
 }
 
-pub fn item(block: &[u8], item: u32) -> Result<ItemAnswer, Refusal> {
-    unsafe { rkw_item(block.as_ptr(), block.len(), item) }.answered()
+pub fn item(block: &[u8], item: u32) -> ItemAnswer {
+    unsafe { rkw_item(block.as_ptr(), block.len(), item) }
 }
 
-pub fn find_property(block: &[u8], id: u16) -> Result<PropertyAnswer, Refusal> {
-    unsafe { rkw_find_property(block.as_ptr(), block.len(), id) }.answered()
+pub fn find_property(block: &[u8], id: u16) -> PropertyAnswer {
+    unsafe { rkw_find_property(block.as_ptr(), block.len(), id) }
 }
 
 pub fn checksum(bytes: &[u8]) -> u64 {
