@@ -149,7 +149,7 @@ fn value(value: model::Value) -> Value {
 fn bare_calls_answer_as_the_rules_say() {
     assert_eq!(checksum(&[]), 0);
     assert_eq!(checksum(&[0x80]), 0xEDB8_8320);
-    assert_eq!(signature(0x908A00, 0x1518), 0x9F88);
+    assert_eq!(signature(0x0090_8A00, 0x1518), 0x9F88);
     assert_eq!(room(4_092), 4_160);
     let mut bytes: Vec<u8> = (0..16).collect();
     encode(2, 0x1518, &mut bytes).unwrap();
