@@ -124,7 +124,7 @@ impl Output {
         match result {
             Ok(()) => self.end_json()?,
             Err(Failure::Refused(refusal, spot)) => {
-                self.refused(&Account::new(source, refusal, &spot))?
+                self.refused(&Account::new(source, refusal, &spot))?;
             }
             Err(Failure::Absent(message)) => {
                 eprintln!("rekwonuda: {message}");

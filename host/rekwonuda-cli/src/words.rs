@@ -161,7 +161,7 @@ mod tests {
     fn types_have_names() {
         assert_eq!(node_type(0x21), "message store");
         assert_eq!(node_type(0x122), "folder");
-        assert_eq!(node_type(0x200024), "message");
+        assert_eq!(node_type(0x0020_0024), "message");
         assert_eq!(node_type(0x09), "unknown");
         assert_eq!(property_type(0x1F), "text");
         assert_eq!(property_type(0x101F), "several of: text");
