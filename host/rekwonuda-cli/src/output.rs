@@ -186,7 +186,7 @@ impl Account {
     }
 
     fn text(&self) -> String {
-        let number = format!("refusal {}", self.refusal.number);
+        let number = format!("refusal {}", self.refusal.number());
         let meaning = format!("{} ({number})", self.refusal.meaning());
         let parts = [
             ("What is wrong", &meaning),
@@ -205,7 +205,7 @@ impl Account {
 
     fn facts(&self) -> Map<String, Value> {
         let facts = json!({
-            "refusal": self.refusal.number,
+            "refusal": self.refusal.number(),
             "place": self.refusal.place,
             "more": self.refusal.more,
             "meaning": self.refusal.meaning(),
