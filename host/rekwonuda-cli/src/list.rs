@@ -2,7 +2,7 @@ use crate::explain::Spot;
 use crate::output::{At, Failure, Output};
 use crate::source::Source;
 use crate::words::node_type;
-use rekwonuda::{Block, Node};
+use rekwonuda::{Block, BlockId, Node};
 use serde_json::{json, Value};
 
 /// Lists all nodes.
@@ -42,12 +42,16 @@ pub fn blocks(source: &Source, out: &mut Output) -> Result<(), Failure> {
 fn node_row(node: &Node) -> String {
     format!(
         "{:>#10x}  {:<28}{:>10}  {:>18}  {:>18}",
-        node.node,
-        node_type(node.node),
-        number_or_dash(node.parent),
-        number_or_dash(node.data),
-        number_or_dash(node.subnode)
+        node.id,
+        node_type(node.id),
+        number_or_dash(node.parent.0.into()),
+        number_or_dash(number(node.data)),
+        number_or_dash(number(node.subnodes))
     )
+}
+
+fn number(block: Option<BlockId>) -> u64 {
+    block.map_or(0, u64::from)
 }
 
 fn number_or_dash(number: u64) -> String {
@@ -59,18 +63,18 @@ fn number_or_dash(number: u64) -> String {
 
 fn node_facts(node: &Node) -> Value {
     json!({
-        "node": node.node,
-        "type": node_type(node.node),
-        "parent": node.parent,
-        "data": node.data,
-        "subnode": node.subnode,
+        "node": node.id.0,
+        "type": node_type(node.id),
+        "parent": node.parent.0,
+        "data": number(node.data),
+        "subnode": number(node.subnodes),
     })
 }
 
 fn block_row(block: &Block) -> String {
     format!(
         "{:>#18x}  {:<8}  {:>#18x}  {:>6}  {:>10}",
-        block.block,
+        block.id,
         kind(block),
         block.offset,
         block.size,
@@ -80,7 +84,7 @@ fn block_row(block: &Block) -> String {
 
 fn block_facts(block: &Block) -> Value {
     json!({
-        "block": block.block,
+        "block": block.id.0,
         "kind": kind(block),
         "offset": block.offset,
         "size": block.size,
@@ -89,7 +93,7 @@ fn block_facts(block: &Block) -> Value {
 }
 
 fn kind(block: &Block) -> &'static str {
-    match block.is_internal() {
+    match block.id.is_internal() {
         true => "internal",
         false => "data",
     }

@@ -3,11 +3,10 @@
 
 use crate::source::Source;
 use crate::words::{counted, grouped, place, spaced_hex};
-use rekwonuda::{Block, Node, Refusal, LONGEST_IMAGE};
+use rekwonuda::{Block, BlockId, Node, Refusal, LARGEST_BLOCK, LONGEST_IMAGE};
 
 const FIRST_ROOM: u64 = 0x4400;
 const PAGE: u64 = 512;
-const LARGEST_BLOCK: u64 = 8_176;
 
 const NEW_COPY: &str = "The file is damaged or was cut short in transfer. Ask for a fresh copy, \
     made while Outlook was closed, or have the sender run Microsoft's scanpst.exe on it. Do not open \
@@ -54,7 +53,7 @@ pub enum Spot {
 
 /// What lies at the place of the refusal, and what to do next.
 pub fn explain(source: &Source, refusal: &Refusal, spot: &Spot) -> (String, String) {
-    let lies_there = match refusal.number {
+    let lies_there = match refusal.number() {
         1 => format!("the whole file: {}", counted(source.size, "byte")),
         2..=5 => in_header(source, refusal),
         6..=11 => in_tree(source, refusal, spot),
@@ -65,7 +64,7 @@ pub fn explain(source: &Source, refusal: &Refusal, spot: &Spot) -> (String, Stri
 }
 
 fn advice(source: &Source, refusal: &Refusal, spot: &Spot) -> &'static str {
-    match (refusal.number, refusal.place) {
+    match (refusal.number(), refusal.place) {
         (1, _) if source.size > LONGEST_IMAGE => TOO_LONG,
         (1, _) => TOO_SHORT,
         (2, 0) => NO_PST,
@@ -84,7 +83,7 @@ fn advice(source: &Source, refusal: &Refusal, spot: &Spot) -> &'static str {
 fn in_header(source: &Source, refusal: &Refusal) -> String {
     let at = place(refusal.place);
     let shown = |length| spaced_hex(source.bytes_at(refusal.place, length));
-    match (refusal.number, refusal.place) {
+    match (refusal.number(), refusal.place) {
         (2, 0) => format!(
             "{at}: the file's first bytes are {}, and should be 21 42 44 4e",
             shown(4)
@@ -129,7 +128,7 @@ fn version(source: &Source) -> String {
 fn in_tree(source: &Source, refusal: &Refusal, spot: &Spot) -> String {
     let (tree, root) = tree_of(source, spot);
     let at = place(refusal.place);
-    if refusal.number == 6 {
+    if refusal.number() == 6 {
         let why = why_not_there(source, refusal.place, PAGE);
         return format!("{at}: {tree} refers to a page there, but {why}");
     }
@@ -185,37 +184,41 @@ fn in_blocks(source: &Source, refusal: &Refusal, spot: &Spot) -> String {
 }
 
 fn listed_block(source: &Source, refusal: &Refusal, block: &Block) -> String {
-    let kind = if block.is_internal() {
+    let kind = if block.id.is_internal() {
         "internal"
     } else {
         "data"
     };
-    let size = counted(block.size, "byte");
+    let size = counted(block.size.into(), "byte");
     let named = format!(
         "{}: {kind} block {:#x}, of {size}",
         place(refusal.place),
-        block.block
+        block.id
     );
-    if refusal.number != 13 {
-        return format!("{named}{}", zeros_at(source, block.offset, block.size));
+    if refusal.number() != 13 {
+        return format!(
+            "{named}{}",
+            zeros_at(source, block.offset, block.size.into())
+        );
     }
-    let why = match block.size {
+    let why = match block.size.into() {
         1..=LARGEST_BLOCK => {
-            why_not_there(source, block.offset, rekwonuda::room(block.size as u32))
+            why_not_there(source, block.offset, rekwonuda::room(block.size.into()))
         }
-        _ => format!("a block has 1 to {} bytes", grouped(LARGEST_BLOCK)),
+        _ => format!("a block has 1 to {} bytes", grouped(LARGEST_BLOCK as u64)),
     };
     format!("{named}, is listed there, but {why}")
 }
 
 fn block_of_node(refusal: &Refusal, node: &Node) -> String {
     let at = place(refusal.place);
-    let whose = format!("the data of node {:#x}", node.node);
-    match refusal.number {
+    let whose = format!("the data of node {:#x}", node.id);
+    let block = node.data.unwrap_or(BlockId(0));
+    match refusal.number() {
         12 => whose,
-        16 => format!("{at}: block {:#x}, which lists {whose}", node.data),
+        16 => format!("{at}: block {block}, which lists {whose}"),
         _ if node.has_data_tree() => format!("{at}: a block of {whose}"),
-        _ => format!("{at}: block {:#x}, {whose}", node.data),
+        _ => format!("{at}: block {block}, {whose}"),
     }
 }
 
@@ -223,7 +226,7 @@ fn in_heap(spot: &Spot) -> String {
     match spot {
         Spot::Heap(node, length) => {
             let size = counted(*length as u64, "byte");
-            format!("the data of node {:#x}, of {size}", node.node)
+            format!("the data of node {:#x}, of {size}", node.id)
         }
         _ => "the data of a node".to_string(),
     }

@@ -3,7 +3,7 @@ use crate::explain::Spot;
 use crate::output::{At, Failure, Output};
 use crate::source::Source;
 use crate::words::{counted, hex, spaced_hex};
-use rekwonuda::Node;
+use rekwonuda::{Node, NodeId};
 use std::fs;
 use std::io::{stdout, IsTerminal};
 use std::path::Path;
@@ -31,13 +31,13 @@ pub fn node(source: &Source, arguments: &NodeArguments, out: &mut Output) -> Res
 pub fn read(source: &Source, number: u32, out: &mut Output) -> Result<(Node, Vec<u8>), Failure> {
     let image = source.image();
     out.fact("node", number);
-    let found = image.find_node(number.into()).at(Spot::NodeTree)?.entry;
+    let found = image.find_node(NodeId(number)).at(Spot::NodeTree)?.entry;
     out.fact("found", found.is_some());
     let absent = || {
         Failure::Absent(format!("node {number:#x} is absent: the node tree is sound as far as it was read, and does not list it"))
     };
     let node = found.ok_or_else(absent)?;
-    let data = image.node_data(number.into()).at(Spot::Data(node))?;
+    let data = image.node_data(NodeId(number)).at(Spot::Data(node))?;
     Ok((node, data.ok_or_else(absent)?))
 }
 

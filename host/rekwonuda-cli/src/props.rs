@@ -15,7 +15,7 @@ const BOOLEAN: u16 = 0x0B;
 /// Lists the properties of a node, by a lookup of every id that there can be.
 pub fn props(source: &Source, arguments: &PropsArguments, out: &mut Output) -> Result<(), Failure> {
     let (node, data) = read(source, arguments.node, out)?;
-    let heap = Heap(&data);
+    let heap = Heap::new(&data);
     let mut rows = Vec::new();
     out.line(format!("{:<7} {:<22} value", "id", "type"))?;
     let mut result = Ok(());
@@ -79,12 +79,12 @@ fn value(
             "empty".to_string()
         }
         Value::Subnode(number) => {
-            facts["subnode"] = number.into();
-            format!("in subnode {number:#x}")
+            facts["subnode"] = number.0.into();
+            format!("in subnode {number}")
         }
         Value::Item(number) => {
             let bytes = heap.item(number)?;
-            facts["item"] = number.into();
+            facts["item"] = number.0.into();
             facts["bytes"] = hex(bytes).into();
             if let Some(text) = text_of(found.type_code, bytes) {
                 facts["text"] = text.into();

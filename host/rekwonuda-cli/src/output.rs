@@ -124,7 +124,7 @@ impl Output {
         match result {
             Ok(()) => self.end_json()?,
             Err(Failure::Refused(refusal, spot)) => {
-                self.refused(&Account::new(source, refusal, &spot))?
+                self.refused(&Account::new(source, refusal, &spot))?;
             }
             Err(Failure::Absent(message)) => {
                 eprintln!("rekwonuda: {message}");
@@ -186,7 +186,7 @@ impl Account {
     }
 
     fn text(&self) -> String {
-        let number = format!("refusal {}", self.refusal.number);
+        let number = format!("refusal {}", self.refusal.number());
         let meaning = format!("{} ({number})", self.refusal.meaning());
         let parts = [
             ("What is wrong", &meaning),
@@ -205,7 +205,7 @@ impl Account {
 
     fn facts(&self) -> Map<String, Value> {
         let facts = json!({
-            "refusal": self.refusal.number,
+            "refusal": self.refusal.number(),
             "place": self.refusal.place,
             "more": self.refusal.more,
             "meaning": self.refusal.meaning(),

@@ -1,7 +1,7 @@
 //! The command line on sound and on damaged files: its texts, its JSON and its exit status.
 
 mod damaged;
-#[path = "../images/mod.rs"]
+#[path = "../../../rekwonuda/tests/images/mod.rs"]
 mod images;
 mod runs;
 

@@ -1,4 +1,5 @@
 //! The command line of Rekwonuda. The library decides; this says it.
+#![forbid(unsafe_code)]
 
 mod args;
 mod check;

@@ -1,5 +1,7 @@
 //! Numbers, texts and the names of types, as a reader wants to see them.
 
+use rekwonuda::NodeId;
+
 /// 1234567 as "1,234,567".
 pub fn grouped(number: u64) -> String {
     let digits = number.to_string();
@@ -51,17 +53,9 @@ pub fn wrapped(text: &str, width: usize) -> Vec<String> {
     lines
 }
 
-pub fn method_name(method: u8) -> &'static str {
-    match method {
-        0 => "none",
-        1 => "permute",
-        _ => "cyclic",
-    }
-}
-
 /// The type of a node by the low five bits of its number.
-pub fn node_type(node: u64) -> &'static str {
-    match node & 0x1F {
+pub fn node_type(node: NodeId) -> &'static str {
+    match node.0 & 0x1F {
         0x00 => "heap",
         0x01 => internal_node(node),
         0x02 => "folder",
@@ -86,8 +80,8 @@ pub fn node_type(node: u64) -> &'static str {
     }
 }
 
-fn internal_node(node: u64) -> &'static str {
-    match node {
+fn internal_node(node: NodeId) -> &'static str {
+    match node.0 {
         0x21 => "message store",
         0x61 => "map of property names",
         0xA1 => "folder template",
@@ -159,10 +153,10 @@ mod tests {
 
     #[test]
     fn types_have_names() {
-        assert_eq!(node_type(0x21), "message store");
-        assert_eq!(node_type(0x122), "folder");
-        assert_eq!(node_type(0x200024), "message");
-        assert_eq!(node_type(0x09), "unknown");
+        assert_eq!(node_type(NodeId(0x21)), "message store");
+        assert_eq!(node_type(NodeId(0x122)), "folder");
+        assert_eq!(node_type(NodeId(0x0020_0024)), "message");
+        assert_eq!(node_type(NodeId(0x09)), "unknown");
         assert_eq!(property_type(0x1F), "text");
         assert_eq!(property_type(0x101F), "several of: text");
         assert_eq!(property_type(0x7777), "unknown");

@@ -21,7 +21,7 @@ impl Source {
     }
 
     pub fn image(&self) -> Image<'_> {
-        Image(&self.bytes)
+        Image::new(&self.bytes)
     }
 
     /// The bytes there, or as many of them as the image has.

@@ -2,7 +2,7 @@ use crate::check::{block_level, block_list, node_counts};
 use crate::explain::Spot;
 use crate::output::{At, Failure, Output};
 use crate::source::Source;
-use crate::words::{counted, method_name, place};
+use crate::words::{counted, place};
 use rekwonuda::PageReference;
 use serde_json::{json, Value};
 
@@ -13,8 +13,8 @@ pub fn info(source: &Source, out: &mut Output) -> Result<(), Failure> {
     out.line(format!("file         {}", source.name))?;
     out.line(format!("size         {}", counted(source.size, "byte")))?;
     let header = source.image().header().at(Spot::Header)?;
-    let method = method_name(header.method);
-    out.fact("method", method);
+    let method = header.method.to_string();
+    out.fact("method", method.as_str());
     out.fact("node_root", reference(&header.nodes));
     out.fact("block_root", reference(&header.blocks));
     out.line(format!("method       {method}"))?;

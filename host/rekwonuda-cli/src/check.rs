@@ -2,8 +2,8 @@ use crate::explain::Spot;
 use crate::output::{At, Failure, Output};
 use crate::progress;
 use crate::source::Source;
-use crate::words::{counted, method_name};
-use rekwonuda::{Block, Refusal};
+use crate::words::counted;
+use rekwonuda::{Block, BlockId, Refusal};
 use serde_json::{json, Value};
 
 /// What a stage found, for both kinds of answer.
@@ -72,7 +72,7 @@ impl Check<'_> {
 
     fn header(&mut self) -> Result<Finding, Failure> {
         let header = self.source.image().header().at(Spot::Header)?;
-        let method = method_name(header.method);
+        let method = header.method.to_string();
         Ok(Finding {
             text: format!("method {method}"),
             facts: json!({ "method": method }),
@@ -105,7 +105,7 @@ impl Check<'_> {
         let bar = progress::bar(self.source, self.blocks.len() as u64);
         let mut bytes = 0;
         for block in bar.wrap_iter(self.blocks.iter()) {
-            bytes += image.test_block(block.block).at(Spot::Block(*block))?;
+            bytes += image.test_block(block.id).at(Spot::Block(*block))? as u64;
         }
         let blocks = self.blocks.len() as u64;
         Ok(Finding {
@@ -126,10 +126,10 @@ pub fn node_counts(source: &Source) -> Result<(u64, u64), Refusal> {
     let mut first = None;
     let mut count = 0;
     for node in bar.wrap_iter(image.nodes()) {
-        first = first.or(Some(node?.node));
+        first = first.or(Some(node?.id));
         count += 1;
     }
-    let path = image.find_node(first.unwrap_or(0))?.pages;
+    let path = image.find_node(first.unwrap_or_default())?.pages;
     Ok((count, path - 1))
 }
 
@@ -144,7 +144,7 @@ pub fn block_list(source: &Source) -> Result<Vec<Block>, Refusal> {
 pub fn block_level(source: &Source, first: Option<&Block>) -> Result<u64, Refusal> {
     let path = source
         .image()
-        .find_block(first.map_or(0, |block| block.block))?
+        .find_block(first.map_or(BlockId(0), |block| block.id))?
         .pages;
     Ok(path - 1)
 }
