@@ -3,7 +3,7 @@ use Prim.Native.Nat.{ℕ, zero, suc, _+_, _*_, _/_, _≤_, _<_}
 use mathlib.Core.Path.{_≡_, refl, sym, ap, _∙_}
 use mathlib.Core.Option.{some}
 use mathlib.Core.List.{List, [], _∷_}
-use native.Mathlib.Nat.{div-mul-le-self, div-le-self}
+use native.Mathlib.Nat.{div-mul-le-self}
 use native.Mathlib.Omega.{arith}
 use lib.ListN.{length}
 use Rattle.le.specs.Bytes.{part, field}
@@ -13,11 +13,12 @@ use Rattle.keys.specs.declared.Range.{Range}
 use Rattle.keys.specs.declared.Shape.{Shape}
 use Rattle.keys.specs.declared.Seat.the-variants.{At, Nowhere}
 use Rattle.keys.specs.declared.Sought.the-variants.{Equal}
-use Rattle.keys.specs.Records.{keyOf, keysOf, records, recordAt, keyAt, RecordsIn, recordsFrom}
+use Rattle.keys.specs.Records.{keyOf, keysOf, records, recordAt, RecordsIn}
+use Rattle.keys.specs.Range.{rangeAt}
 use Rattle.keys.specs.Search.{lastAtMost, firstThat, withKey}
 use Rattle.keys.proofs.RecordLaws.{record-inside, field-at}
 use Rattle.keys.proofs.FoundLaws.{found-inside, record-found, record-absent, chosen-inside}
-use Rattle.search.specs.SearchTree.{endOf, offspring, children}
+use Rattle.search.specs.SearchTree.{offspring, children}
 use Rattle.search.specs.Answer.{Answer, answer}
 use Rattle.search.specs.Descent.{picked}
 use Rattle.search.proofs.Records.{childAt, chosen-none, chosen-some}
@@ -36,10 +37,6 @@ use Rattle.heaptree.proofs.ShownLaws.{stands, nowhere}
 pub records-hold : (shape : Shape) (bytes : List ℕ) → shape .width ≤ shape .size → shape .width ≤ 8 → RecordsIn shape (recordCount shape bytes) bytes
 unfolding recordCount
 records-hold shape bytes k w = record { inside = div-mul-le-self (length bytes) (shape .size); key = k; word = w }
-
-pub records-few : (shape : Shape) (bytes : List ℕ) → recordCount shape bytes ≤ length bytes
-unfolding recordCount
-records-few shape bytes = div-le-self (length bytes) (shape .size)
 
 -- one of them lies in the bytes
 pub record-lies : (shape : Shape) (bytes : List ℕ) (i : ℕ) → i < recordCount shape bytes → i * shape .size + shape .size ≤ length bytes
@@ -91,12 +88,11 @@ module _ (tree : HeapTree) (block : List ℕ) (heap : Heap block) (item : ℕ) (
   leaf-none e = nowhere tree block 1 _ (record-absent (leafShape tree) (recordCount (leafShape tree) bytes) bytes Equal key e)
 
 -- the child of a record, read from the item's bytes
-pub child-is : (shape : Shape) → shape .width + 4 ≤ shape .size → (to end : End) (bytes : List ℕ) (i item from : ℕ)
-    → item ≡ field bytes (i * shape .size + shape .width) 4 → from ≡ keyAt shape bytes i
-    → end ≡ endOf (keyOf shape) to (recordsFrom shape (recordCount shape bytes) bytes (i + 1))
-    → _≡_ {A = Branch} (record { item = item; range = record { from = from; to = end } }) (childAt (keyOf shape) (childOf (shape .width)) to shape (recordCount shape bytes) bytes i)
+pub child-is : (shape : Shape) → shape .width + 4 ≤ shape .size → (to : End) (n : ℕ) (bytes : List ℕ) (i item : ℕ) (range : Range)
+    → item ≡ field bytes (i * shape .size + shape .width) 4 → range ≡ rangeAt shape n bytes i to
+    → _≡_ {A = Branch} (record { item = item; range = range }) (childAt (keyOf shape) (childOf (shape .width)) to shape n bytes i)
 unfolding childOf
-child-is shape wide to end bytes i item from ei ef ee = rw (ei, ef, ee, field-at shape bytes i (shape .width) 4 wide)
+child-is shape wide to n bytes i item range ei er = rw (ei, er, field-at shape bytes i (shape .width) 4 wide)
 
 -- the child that is chosen, among the bytes of the branch's item
 module _ (tree : HeapTree) (block bytes : List ℕ) (branch : Branch) (same : bytes ≡ itemPart block (branch .item)) (key : ℕ) where

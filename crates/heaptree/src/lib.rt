@@ -10,9 +10,9 @@ use refusal::Verdict;
 ghost use mathlib.Core.Path.{_≡_};
 ghost use Prim.Native.Nat.{_+_, _≤_, _<_};
 ghost use Rattle.refusal.specs.Order.{inOrder};
-ghost use Rattle.keys.specs.Records.{keyOf, recordsFrom};
+ghost use Rattle.keys.specs.Records.{keyOf, RecordsIn};
 ghost use Rattle.keys.specs.Search.{withKey};
-ghost use Rattle.search.specs.SearchTree.{test, endOf};
+ghost use Rattle.search.specs.SearchTree.{test};
 ghost use Rattle.search.specs.Answer.{answer};
 ghost use Rattle.search.specs.Descent.{descend};
 ghost use Rattle.search.proofs.Records.{childAt};
@@ -137,29 +137,15 @@ fn find_in_leaf(block: &[u8], tree: HeapTree, key: u64, item: u32) -> FoundRecor
     FoundRecord::At(heap::item_start(block, item) + i * size)
 }
 
-// Where the range of the child before the i-th index record ends.
-fn end_at(records: &[u8], shape: Shape, i: usize, to: End) -> End
-    requires { ⌜ (0 < shape .size) × (shape .width ≤ shape .size) × (shape .width ≤ 8) ⌝ }
-    ensures { λ r. ⌜ r ≡ endOf (keyOf shape) to (recordsFrom shape (recordCount shape (now (records .entry))) (now (records .entry)) i) ⌝ }
-{
-    let size = shape.size;
-    if records.len() / size <= i {
-        return to;
-    }
-    End::Before(keys::key_at(records, shape, i))
-}
-
-// The child of the i-th index record.
-fn child_at(records: &[u8], shape: Shape, i: usize, to: End) -> Branch
-    requires { ⌜ (shape .width + 4 ≤ shape .size) × (shape .width ≤ 8) × (i < recordCount shape (now records)) ⌝ }
-    ensures { λ r. ⌜ r ≡ childAt (keyOf shape) (childOf (shape .width)) to shape (recordCount shape (now (records .entry))) (now (records .entry)) i ⌝ }
+// The child of the i-th of so many index records.
+fn child_at(records: &[u8], shape: Shape, count: usize, i: usize, to: End) -> Branch
+    requires { ⌜ RecordsIn shape count (now records) × (shape .width + 4 ≤ shape .size) × (i < count) ⌝ }
+    ensures { λ r. ⌜ r ≡ childAt (keyOf shape) (childOf (shape .width)) to shape count (now (records .entry)) i ⌝ }
 {
     let size = shape.size;
     let width = shape.width;
     let item = le::field4(records, i * size + width);
-    let from = keys::key_at(records, shape, i);
-    let end = end_at(records, shape, i + 1, to);
-    let range = Range { from, to: end };
+    let range = keys::range_at(records, shape, count, i, to);
     Branch { item, range }
 }
 
@@ -175,11 +161,12 @@ fn choose_child(block: &[u8], tree: HeapTree, key: u64, branch: Branch) -> Chose
     let width = tree.key;
     let size = width + 4;
     let shape = Shape { size, width };
-    let seat = keys::last_at_most(records, shape, records.len() / size, key);
+    let count = records.len() / size;
+    let seat = keys::last_at_most(records, shape, count, key);
     let Seat::At(i) = seat else {
         return Chosen::Nobody;
     };
-    Chosen::Child(child_at(records, shape, i, to))
+    Chosen::Child(child_at(records, shape, count, i, to))
 }
 
 // The descent from an item so many index levels above the leaves.

@@ -15,12 +15,14 @@ use Rattle.keys.specs.declared.End.{End}
 use Rattle.keys.specs.declared.Seat.the-variants.{At, Nowhere}
 use Rattle.keys.specs.declared.Sought.{Sought}
 use Rattle.keys.specs.declared.Sought.the-variants.{AtLeast}
-use Rattle.keys.specs.Records.{keyOf, keysOf, recordAt, keyAt, RecordsIn, recordsFrom}
+use Rattle.keys.specs.Records.{keyOf, keysOf, recordAt, RecordsIn, recordsFrom}
+use Rattle.keys.specs.Range.{rangeAt}
 use Rattle.keys.specs.Search.{lastAtMost, firstThat, scanned, start}
 use Rattle.keys.proofs.RecordLaws.{records-length, record-inside, field-at}
+use Rattle.keys.proofs.RangeLaws.{end-same}
 use Rattle.keys.proofs.FoundLaws.{found-inside, chosen-inside}
 use Rattle.keys.proofs.SeatLaws.{start-below}
-use Rattle.search.specs.SearchTree.{endOf, children}
+use Rattle.search.specs.SearchTree.{children}
 use Rattle.search.specs.Descent.{fromSeat, picked}
 use Rattle.search.proofs.Records.{childAt, childrenFrom, entry-none, entry-some, children-all, children-at, children-none, children-drop, seat-is, chosen-none, chosen-some}
 use Rattle.page.specs.declared.Layout.{Layout}
@@ -39,14 +41,13 @@ unfolding keyOf keyIn shape
 key-same L s h e = ap (field e 0) h
 
 -- the child of the i-th entry, by the numbers read
-pub link-is : (L : Layout) (s : Shape) (n : ℕ) (g : List ℕ) (to : End) (i level number offset from : ℕ) (end : End) → L .word * 3 ≤ s .size
-    → number ≡ field g (i * s .size + L .word) (L .word) → offset ≡ field g (i * s .size + L .word + L .word) (L .word) → from ≡ keyAt s g i
-    → end ≡ endOf (keyIn L) to (recordsFrom s n g (i + 1))
-    → _≡_ {A = Link} (record { number = number; offset = offset; level = Exactly level; range = record { from = from; to = end } }) (childAt (keyIn L) (linkOf L level) to s n g i)
+pub link-is : (L : Layout) (s : Shape) (n : ℕ) (g : List ℕ) (to : End) (i level number offset : ℕ) (range : Range) → L .word * 3 ≤ s .size → s .width ≡ L .key
+    → number ≡ field g (i * s .size + L .word) (L .word) → offset ≡ field g (i * s .size + L .word + L .word) (L .word) → range ≡ rangeAt s n g i to
+    → _≡_ {A = Link} (record { number = number; offset = offset; level = Exactly level; range = range }) (childAt (keyIn L) (linkOf L level) to s n g i)
 unfolding linkOf
-link-is L s n g to i level number offset from end h en eo ef ee =
+link-is L s n g to i level number offset range h w en eo er =
     let p : i * s .size + L .word + L .word ≡ i * s .size + (L .word + L .word) = omega arith in
-    rw (en, eo, ef, ee, p, field-at s g i (L .word) (L .word) (omega arith), field-at s g i (L .word + L .word) (L .word) (omega arith))
+    rw (en, eo, er, p, end-same (keyOf s) (keyIn L) (key-same L s w) to (recordsFrom s n g (i + 1)), field-at s g i (L .word) (L .word) (omega arith), field-at s g i (L .word + L .word) (L .word) (omega arith))
 
 -- what reading the child of the i-th entry asks, of a page whose counts fit
 pub link-ready : (L : Layout) (p : Link) (g : List ℕ) → FairLayout L → length g ≡ 512 → countsFit L p g ≡ true

@@ -16,9 +16,9 @@ ghost use mathlib.Core.List.{map};
 ghost use Prim.Native.Nat.{_+_, _*_, _≤_, _<_};
 ghost use lib.ListN.{length};
 ghost use Rattle.le.specs.Bytes.{part};
-ghost use Rattle.keys.specs.Records.{RecordsIn, recordsFrom};
+ghost use Rattle.keys.specs.Records.{RecordsIn};
 ghost use Rattle.keys.specs.Search.{lastAtMost, scanned, start};
-ghost use Rattle.search.specs.SearchTree.{endOf, offspring, children, checkUnder};
+ghost use Rattle.search.specs.SearchTree.{children, checkUnder};
 ghost use Rattle.search.specs.Answer.{answer, counted};
 ghost use Rattle.search.specs.Descent.{picked, descend};
 ghost use Rattle.search.proofs.Checked.{each};
@@ -79,17 +79,6 @@ pub enum Next {
     NoMore,
 }
 
-// Where the range of the child before the i-th entry ends.
-fn end_at(l: Layout, page: &[u8], shape: Shape, count: usize, i: usize, to: End) -> End
-    requires { ⌜ RecordsIn shape count (now page) × (shape .width ≡ l .key) ⌝ }
-    ensures { λ r. ⌜ r ≡ endOf (keyIn l) to (recordsFrom shape count (now (page .entry)) i) ⌝ }
-{
-    if count <= i {
-        return to;
-    }
-    End::Before(keys::key_at(page, shape, i))
-}
-
 // The child of the i-th entry.
 fn link_at(
     l: Layout,
@@ -107,13 +96,12 @@ fn link_at(
     let place = i * shape.size;
     let number = le::field_of(page, place + word, word);
     let offset = le::field_of(page, place + word + word, word);
-    let from = keys::key_at(page, shape, i);
-    let end = end_at(l, page, shape, count, i + 1, to);
+    let range = keys::range_at(page, shape, count, i, to);
     Link {
         number,
         offset,
         level: Level::Exactly(level),
-        range: Range { from, to: end },
+        range,
     }
 }
 

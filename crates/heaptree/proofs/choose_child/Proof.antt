@@ -28,12 +28,14 @@ returns c =
     child-none (a .tree) (a .block .now) (part .result .now) (a .branch) (part .ensures) (a .key) (sym (c .enum-told .given .1) ∙ c .before .before .last-at-most .ensures)
 
 child-at-requires : tie.Need-child-at-requires
+unfolding recordCount
 child-at-requires c κs =
     let a = c .before .before .before .before .before .before .before .args in
     let part = c .before .before .before .before .part-of in
-    (omega arith, c .before .before .before .before .before .before .before .pre .2 .1, child-inside (a .tree) (a .block .now) (part .result .now) (a .branch) (part .ensures) (a .key) (c .before .seat .given .0 .0) (sought c))
+    (records-hold (indexShape (a .tree)) (part .result .now) (omega arith) (c .before .before .before .before .before .before .before .pre .2 .1), omega arith, child-inside (a .tree) (a .block .now) (part .result .now) (a .branch) (part .ensures) (a .key) (c .before .seat .given .0 .0) (sought c))
 
 returns-2 : tie.Need-returns-2
+unfolding recordCount
 returns-2 c levels =
     let a = c .before .before .before .before .before .before .before .before .args in
     let part = c .before .before .before .before .before .part-of in
