@@ -70,7 +70,7 @@ use Rattle.property.proofs.TriedLaws.{refusalIn, property-answered-exactly}
 use Rattle.property.proofs.ScanLaws.{scan-holds}
 use Rattle.pst.specs.Meaning.{Meaning, answered, refuses, refusalMeans, verdictMeans, headerMeans, blockMeans, sizedMeans, dataMeans, spanMeans, propertyMeans}
 use Rattle.pst.specs.Outcomes.{headerOutcome, nodesOutcome, blocksOutcome, blockOutcome, testOutcome, readOutcome, readBuffer, dataOutcome, dataBuffer, encodeBuffer, decodeBuffer, heapOutcome, testItemOutcome, itemOutcome, spanOutcome, propertyOutcome}
-use Rattle.pst.specs.Demands.{SoundBlock, BlockOf, DataOf, SecondDemand}
+use Rattle.pst.specs.Demands.{SoundBlock, BlockOfSize, DataOfSize, SecondDemand}
 use Rattle.pst.proofs.Injective.{verdict-injective, header-injective, block-injective, sized-injective, data-injective}
 
 both-ways : {A B C : Type 0} → A ↔ B → B ↔ C → A ↔ C
@@ -141,12 +141,12 @@ module _ (image : List ℕ) (number : ℕ) where
       ap (testedBy (blockFits trailer64 image)) (block-injective _ (block.Found b (s .pages)) (s .found))
       ∙ goes checked.Refused _ _ (block-exactly trailer64 image b .1 (s .sound))
 
-  size-block : (c : Checked) (size : ℕ) → checkedBlock image number ≡ c → sizeIn c ≡ sized.Size size → BlockOf image number size
+  size-block : (c : Checked) (size : ℕ) → checkedBlock image number ≡ c → sizeIn c ≡ sized.Size size → BlockOfSize image number size
   unfolding sizeIn
   size-block (checked.Block b) size e q = record { listed = b; sound = checked-sound b e; same-size = size-is q }
   size-block (checked.Refused r) size e q = let clash : _≡_ {A = ℕ} 0 1 = cc in absurd (omega arith)
 
-  tested-holds : (size : ℕ) → (testOutcome image number ≡ answered (size ∷ [])) ↔ BlockOf image number size
+  tested-holds : (size : ℕ) → (testOutcome image number ≡ answered (size ∷ [])) ↔ BlockOfSize image number size
   unfolding testOutcome testOf sizedMeans sizeIn
   tested-holds size = (
     (λ e. size-block (checkedBlock image number) size refl (sized-injective _ (sized.Size size) e)),
@@ -154,18 +154,18 @@ module _ (image : List ℕ) (number : ℕ) where
   )
 
   -- a read asks for room besides
-  space-block : (c : Checked) (size space : ℕ) → checkedBlock image number ≡ c → readIn c space ≡ sized.Size size → BlockOf image number size × (size ≤ space)
+  space-block : (c : Checked) (size space : ℕ) → checkedBlock image number ≡ c → readIn c space ≡ sized.Size size → BlockOfSize image number size × (size ≤ space)
   unfolding readIn fitting
   space-block (checked.Block b) size space e q = by (leb (b .size) space) refl q
     where
-      by : (w : Bool) → leb (b .size) space ≡ w → cond w (sized.Size (b .size)) (sized.Refused (ShortBuffer needing b .size)) ≡ sized.Size size → BlockOf image number size × (size ≤ space)
+      by : (w : Bool) → leb (b .size) space ≡ w → cond w (sized.Size (b .size)) (sized.Refused (ShortBuffer needing b .size)) ≡ sized.Size size → BlockOfSize image number size × (size ≤ space)
       by true t z =
           let same : b .size ≡ size = size-is z in
           (record { listed = b; sound = checked-sound b e; same-size = same }, subst (λ (n : ℕ). n ≤ space) same (leb-true (b .size) space t))
       by false t z = let clash : _≡_ {A = ℕ} 0 1 = cc in absurd (omega arith)
   space-block (checked.Refused r) size space e q = let clash : _≡_ {A = ℕ} 0 1 = cc in absurd (omega arith)
 
-  read-holds : (size : ℕ) (out : List ℕ) → (readOutcome image number out ≡ answered (size ∷ [])) ↔ (BlockOf image number size × (size ≤ length out))
+  read-holds : (size : ℕ) (out : List ℕ) → (readOutcome image number out ≡ answered (size ∷ [])) ↔ (BlockOfSize image number size × (size ≤ length out))
   unfolding readOutcome sizedMeans
   read-holds size out = (
     (λ e. space-block (checkedBlock image number) size (length out) refl (read-is image number (length out) ∙ sized-injective _ (sized.Size size) e)),
@@ -182,11 +182,11 @@ length-is : {m n : ℕ} → read.Length m ≡ read.Length n → m ≡ n
 length-is e = cc
 
 module _ (image : List ℕ) (node : ℕ) where
-  content-data : (c : Content) (size space : ℕ) → nodeContent image node ≡ c → answerTo c space ≡ read.Length size → DataOf image node space size
+  content-data : (c : Content) (size space : ℕ) → nodeContent image node ≡ c → answerTo c space ≡ read.Length size → DataOfSize image node space size
   unfolding answerTo
   content-data (content.bytes s) size space e q = by (leb (length s) space) refl q
     where
-      by : (w : Bool) → leb (length s) space ≡ w → cond w (read.Length (length s)) (read.Refused (ShortBuffer needing length s)) ≡ read.Length size → DataOf image node space size
+      by : (w : Bool) → leb (length s) space ≡ w → cond w (read.Length (length s)) (read.Refused (ShortBuffer needing length s)) ≡ read.Length size → DataOfSize image node space size
       by true t z =
           let same : length s ≡ size = length-is z in
           record { bytes = s; named = node-exactly image node s .0 e; long = same; fits = subst (λ (n : ℕ). n ≤ space) same (leb-true (length s) space t) }
@@ -198,7 +198,7 @@ module _ (image : List ℕ) (node : ℕ) where
   unfolding answerTo
   answer-fits s size space e h = rw (e, le-leb size space h)
 
-  data-holds : (size : ℕ) (out : List ℕ) → (dataOutcome image node out ≡ answered (size ∷ [])) ↔ DataOf image node (length out) size
+  data-holds : (size : ℕ) (out : List ℕ) → (dataOutcome image node out ≡ answered (size ∷ [])) ↔ DataOfSize image node (length out) size
   unfolding dataOutcome dataMeans
   data-holds size out = (
     (λ e. content-data (nodeContent image node) size (length out) refl (data-injective _ (read.Length size) e)),

@@ -94,13 +94,13 @@ pub record SoundBlock (image : List ℕ) (number : ℕ) (listed : Listed) : Type
   pub sound : BlockSound trailer64 image listed
 
 -- a call on a block that answers its size
-pub record BlockOf (image : List ℕ) (number size : ℕ) : Type 0 where
+pub record BlockOfSize (image : List ℕ) (number size : ℕ) : Type 0 where
   pub listed : Listed
   pub sound : SoundBlock image number listed
   pub same-size : listed .size ≡ size
 
 -- the bytes of exactly the blocks that a node names, and room for them
-pub record DataOf (image : List ℕ) (node space size : ℕ) : Type 0 where
+pub record DataOfSize (image : List ℕ) (node space size : ℕ) : Type 0 where
   pub bytes : List ℕ
   pub named : Named image node bytes
   pub long : length bytes ≡ size
@@ -112,13 +112,13 @@ pub record SecondDemand : Type 0 where
   pub node-tree : (image : List ℕ) → (nodesOutcome image ≡ answered []) ↔ TreeSound nbt image
   pub block-tree : (image : List ℕ) → (blocksOutcome image ≡ answered []) ↔ TreeSound bbt image
   -- a block is accepted exactly when it is listed and its rules hold
-  pub block-tested : (image : List ℕ) (block size : ℕ) → (testOutcome image block ≡ answered (size ∷ [])) ↔ BlockOf image block size
+  pub block-tested : (image : List ℕ) (block size : ℕ) → (testOutcome image block ≡ answered (size ∷ [])) ↔ BlockOfSize image block size
   -- what is read is its bytes, decoded unless it is internal, at the front of the buffer
-  pub block-read : (image : List ℕ) (block size : ℕ) (out : List ℕ) → (readOutcome image block out ≡ answered (size ∷ [])) ↔ (BlockOf image block size × (size ≤ length out))
+  pub block-read : (image : List ℕ) (block size : ℕ) (out : List ℕ) → (readOutcome image block out ≡ answered (size ∷ [])) ↔ (BlockOfSize image block size × (size ≤ length out))
   pub block-bytes : (image : List ℕ) (block : ℕ) (out : List ℕ) (listed : Listed) → SoundBlock image block listed → listed .size ≤ length out
       → readBuffer image block out ≡ fronted (blockBytes image listed) out
   -- a node's data is answered exactly when it is named by the rules, with room for it; it stands at the front of the buffer; and there is a most of it
-  pub data-read : (image : List ℕ) (node size : ℕ) (out : List ℕ) → (dataOutcome image node out ≡ answered (size ∷ [])) ↔ DataOf image node (length out) size
+  pub data-read : (image : List ℕ) (node size : ℕ) (out : List ℕ) → (dataOutcome image node out ≡ answered (size ∷ [])) ↔ DataOfSize image node (length out) size
   pub data-bytes : (image : List ℕ) (node : ℕ) (out bytes : List ℕ) → Named image node bytes → length bytes ≤ length out → dataBuffer image node out ≡ fronted bytes out
   pub data-most : (image : List ℕ) (node size : ℕ) (out : List ℕ) → dataOutcome image node out ≡ answered (size ∷ []) → size ≤ 8347696
   -- heaps and items
