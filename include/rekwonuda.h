@@ -166,8 +166,8 @@ struct rkw_answer rkw_test_item(const uint8_t *block, size_t len, uint32_t item)
  * has a start, and length 0. Refusals as by rkw_test_item. */
 struct rkw_item_answer rkw_item(const uint8_t *block, size_t len, uint32_t item);
 
-/* Looks up a property by its id. A value that is an item (kind 2) has been tested: rkw_item accepts
- * its number. Refusals 18 to 20. */
+/* Looks up a property by its id. Where the value is an item (kind 2), the item's number has been
+ * tested as rkw_test_item tests it. Refusals 18 to 20. */
 struct rkw_property_answer rkw_find_property(const uint8_t *block, size_t len, uint16_t id);
 
 /* The checksum of the bytes: polynomial EDB88320 hex, reflected, start 0, no inversion. Under 2^32. */

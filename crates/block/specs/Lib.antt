@@ -1,2 +1,3 @@
 pub mod Block
+pub mod Tried
 pub mod Sound

@@ -4,3 +4,4 @@ pub mod RecordLaws
 pub mod StepLaws
 pub mod SoundLaws
 pub mod ScanLaws
+pub mod TriedLaws

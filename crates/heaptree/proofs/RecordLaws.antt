@@ -21,7 +21,8 @@ use Rattle.keys.proofs.FoundLaws.{found-inside, record-found, record-absent, ch
 use Rattle.search.specs.SearchTree.{offspring, children}
 use Rattle.search.specs.Answer.{Answer, answer}
 use Rattle.search.specs.Descent.{picked}
-use Rattle.search.proofs.Records.{childAt, chosen-none, chosen-some}
+use Rattle.search.specs.Records.{childAt}
+use Rattle.search.proofs.Records.{chosen-none, chosen-some}
 use Rattle.heap.specs.Shape.{Heap}
 use Rattle.heap.specs.Items.{Numbered, itemStart, itemLength, itemPart}
 use Rattle.heap.proofs.ItemLaws.{item-lies}

@@ -3,15 +3,16 @@ use Prim.Native.Nat.{ℕ, _+_, _≤_}
 use mathlib.Core.Path.{_≡_}
 use mathlib.Core.Bool.{cond}
 use mathlib.Core.Option.{none, some}
-use mathlib.Core.List.{List}
+use mathlib.Core.List.{List, []}
 use lib.Dec.{eqb}
 use lib.ListN.{length}
 use Rattle.le.specs.Bytes.{part}
 use Rattle.refusal.specs.declared.Refusal.{Refusal}
+use Rattle.refusal.specs.Order.{Rule}
 use Rattle.keys.specs.declared.End.the-variants.{Open}
 use Rattle.keys.specs.declared.Sought.the-variants.{Equal}
 use Rattle.search.specs.Answer.{Answer, found, absent, refused}
-use Rattle.search.specs.Descent.{descend}
+use Rattle.search.specs.Descent.{descend, rulesRead}
 use Rattle.search.specs.Promises.{Says}
 use Rattle.heaptree.specs.declared.Branch.{Branch}
 use Rattle.heaptree.specs.declared.FoundRecord.{FoundRecord}
@@ -28,6 +29,11 @@ rootBranch block root = record { item = rootItem block root; range = record { fr
 unfoldable pub fromRoot : HeapTree → List ℕ → ℕ → ℕ → Answer (List ℕ)
 fromRoot tree block root key =
     cond (eqb (rootItem block root) 0) (absent 0) (descend (treeOn tree block) Equal key (indexLevels block root) (rootBranch block root))
+
+-- the rules that the lookup tries, item by item from the root item down
+unfoldable pub pathRules : HeapTree → List ℕ → ℕ → ℕ → List Rule
+pathRules tree block root key =
+    cond (eqb (rootItem block root) 0) [] (rulesRead (treeOn tree block) Equal key (indexLevels block root) (rootBranch block root))
 
 -- what a call tells of an answer: where in the block the record stands; or that there is none; or the refusal
 unfoldable pub Shows : HeapTree → List ℕ → FoundRecord → Answer (List ℕ) → Type 0

@@ -14,7 +14,7 @@ ghost use Rattle.keys.specs.Records.{keyOf, RecordsIn};
 ghost use Rattle.keys.specs.Search.{withKey};
 ghost use Rattle.search.specs.Answer.{answer};
 ghost use Rattle.search.specs.Descent.{descend};
-ghost use Rattle.search.proofs.Records.{childAt};
+ghost use Rattle.search.specs.Records.{childAt};
 ghost use Rattle.heap.specs.Shape.{Heap};
 ghost use Rattle.heap.specs.Items.{Numbered, itemPart};
 ghost use Rattle.heaptree.specs.Value.{FairTree, leafShape, indexShape, shapeAt, recordKey};

@@ -7,7 +7,11 @@ mod text;
 
 fn image_lines(name: &[u8]) {
     let mut buffer = io::large_buffer();
-    let n = said::load(name, &mut buffer);
+    let file = said::load(name, &mut buffer);
+    if !file.whole {
+        return;
+    }
+    let n = file.size;
     let mut out = io::large_buffer();
     said::say(name);
     said::say(b": ");

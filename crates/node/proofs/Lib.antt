@@ -3,4 +3,5 @@ pub mod Kids
 pub mod Running
 pub mod Outcomes
 pub mod Exactly
+pub mod TriedLaws
 pub mod Most

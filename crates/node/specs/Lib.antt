@@ -1,3 +1,4 @@
 pub mod Content
 pub mod Named
+pub mod Tried
 pub mod Steps

@@ -1,3 +1,4 @@
 pub mod ContextLaws
 pub mod SaidLaws
 pub mod ScanLaws
+pub mod TriedLaws

@@ -1,2 +1,3 @@
 pub mod Meaning
 pub mod Outcomes
+pub mod Demands

@@ -1,19 +1,69 @@
 // What the programs share: a file loaded, words and numbers printed, and where a listing goes on.
+use libc::SEEK_END;
+use libc::SEEK_SET;
 use libc::STDOUT_FILENO;
 ghost use Rattle.io.specs.Counts.{Counts};
 
-// Reads a file of the program's folder to the front of the buffer; how many bytes it has.
-pub fn load(path: &[u8], buffer: &mut [u8]) -> usize
-    ensures { λ r. ⌜ Counts r (now (buffer .exit)) ⌝ }
+// What became of a file: all of its bytes, so many, stand at the buffer's front; or it was not loaded.
+pub struct Loaded {
+    pub whole: bool,
+    pub size: usize,
+}
+
+// How many bytes the file has, 0 where that cannot be told. It is then read from its start.
+fn length_of(file: i32) -> u64 {
+    let end = libc::lseek(file, 0, SEEK_END);
+    libc::lseek(file, 0, SEEK_SET);
+    if end < 0 {
+        return 0;
+    }
+    end as u64
+}
+
+// Nothing of a file that is longer than the buffer is read.
+fn read_whole(file: i32, path: &[u8], buffer: &mut [u8]) -> Loaded
+    ensures { λ r. ⌜ Counts (r .size) (now (buffer .exit)) ⌝ }
+{
+    let length = length_of(file);
+    if length > buffer.len() as u64 {
+        say(path);
+        say_decimal(b": over ", buffer.len() as u64);
+        say(b" bytes, nothing of it is read\n");
+        return Loaded {
+            whole: false,
+            size: 0,
+        };
+    }
+    let n = io::read_full(file, buffer);
+    if n as u64 != length {
+        say(path);
+        say(b": not read to its end\n");
+        return Loaded {
+            whole: false,
+            size: 0,
+        };
+    }
+    Loaded {
+        whole: true,
+        size: n,
+    }
+}
+
+// Reads a file of the program's folder to the front of the buffer, and says why where it does not.
+pub fn load(path: &[u8], buffer: &mut [u8]) -> Loaded
+    ensures { λ r. ⌜ Counts (r .size) (now (buffer .exit)) ⌝ }
 {
     let file = os::open_read(path);
     if file < 0 {
         os::fail(path);
-        return 0;
+        return Loaded {
+            whole: false,
+            size: 0,
+        };
     }
-    let n = io::read_full(file, buffer);
+    let loaded = read_whole(file, path, buffer);
     libc::close(file);
-    n
+    loaded
 }
 
 pub fn say(words: &[u8]) {

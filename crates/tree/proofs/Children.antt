@@ -24,7 +24,8 @@ use Rattle.keys.proofs.FoundLaws.{found-inside, chosen-inside}
 use Rattle.keys.proofs.SeatLaws.{start-below}
 use Rattle.search.specs.SearchTree.{children}
 use Rattle.search.specs.Descent.{fromSeat, picked}
-use Rattle.search.proofs.Records.{childAt, childrenFrom, entry-none, entry-some, children-all, children-at, children-none, children-drop, seat-is, chosen-none, chosen-some}
+use Rattle.search.specs.Records.{childAt, childrenFrom}
+use Rattle.search.proofs.Records.{entry-none, entry-some, children-all, children-at, children-none, children-drop, seat-is, chosen-none, chosen-some}
 use Rattle.page.specs.declared.Layout.{Layout}
 use Rattle.page.specs.declared.Level.the-variants.{Exactly}
 use Rattle.page.specs.declared.Link.{Link}

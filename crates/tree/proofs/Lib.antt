@@ -7,3 +7,4 @@ pub mod Demand3
 pub mod Listing
 pub mod Exactly
 pub mod OffPath
+pub mod InOrder

@@ -1,9 +1,9 @@
 -- A listing of an accepted tree is its scan. Assumes nothing.
-use Prim.Native.Nat.{ℕ, zero, suc, _+_, _*_, _^_, _<_, zero-le}
+use Prim.Native.Nat.{ℕ, zero, suc, _+_, _*_, _^_, _≤_, _<_, zero-le}
 use mathlib.Core.Path.{_≡_, sym, ap, _∙_}
-use mathlib.Core.List.{List}
+use mathlib.Core.List.{List, [], map}
 use native.Mathlib.Nat.{le-trans, mod-eq-of-lt, pow-le-pow-right, zero-lt-suc}
-use lib.ListN.{take, drop}
+use lib.ListN.{length, length-map, take, drop}
 use Rattle.le.specs.Bytes.{part, Bytes}
 use Rattle.le.proofs.ByteLaws.{take-bytes, drop-bytes, field-below}
 use Rattle.refusal.specs.declared.Verdict.{Verdict}
@@ -14,18 +14,19 @@ use Rattle.keys.specs.Plain.{All}
 use Rattle.keys.specs.Records.{cut, keyOf, records}
 use Rattle.keys.specs.Search.{fromKey}
 use Rattle.keys.proofs.SearchLaws.{all-map}
-use Rattle.search.specs.Answer.{refused, answer}
-use Rattle.search.specs.Descent.{descend}
-use Rattle.search.specs.Promises.{Says, AtMost}
+use Rattle.search.specs.Answer.{answer}
+use Rattle.search.specs.Descent.{reads}
+use Rattle.search.specs.Promises.{Says}
 use Rattle.search.proofs.Checked.{leaves-climb, all-leaves}
-use Rattle.search.proofs.Few.{few-read}
+use Rattle.search.proofs.Few.{few}
 use Rattle.search.proofs.Lists.{lists-all}
 use Rattle.header.specs.Header.{headerFits}
 use Rattle.page.specs.declared.Layout.{Layout}
+use Rattle.page.specs.declared.Link.{Link}
 use Rattle.page.specs.Layout.{shape, compared}
 use Rattle.page.specs.Page.{page, entries, keyIn}
 use Rattle.tree.specs.Tree.{root, rootLevel, pageTree, treeFits, scan}
-use Rattle.tree.specs.Lookup.{searched, next}
+use Rattle.tree.specs.Lookup.{next, pagesRead}
 use Rattle.tree.specs.Listing.{ListingHolds, FewPagesHolds, ListsHolds}
 use Rattle.tree.proofs.Searched.{sorted, filled}
 use Rattle.tree.proofs.Demand3.{tree, from-root, scans}
@@ -43,12 +44,15 @@ listing L image ok =
 
 -- however the image stands, few pages are read
 pub few-pages-read : FewPagesHolds
-unfolding searched after AtMost
+unfolding pagesRead after
 few-pages-read L image from = by (headerFits image)
   where
-    by : (v : Verdict) → AtMost (2 * rootLevel L image + 1) (after refused v (descend (pageTree L image) AtLeast (compared L from) (rootLevel L image) (root L image)))
-    by Accepted = few-read (pageTree L image) (sorted L image) (filled L image) (compared L from) (rootLevel L image) (root L image)
-    by (Refused r) = tt
+    read : List Link
+    read = reads (pageTree L image) AtLeast (compared L from) (rootLevel L image) (root L image)
+
+    by : (v : Verdict) → length (after (λ r. []) v (map (λ p. p .offset) read)) ≤ 2 * rootLevel L image + 1
+    by Accepted = rw (length-map read (λ p. p .offset)) (few (pageTree L image) (sorted L image) (filled L image) (compared L from) (rootLevel L image) (root L image) .few)
+    by (Refused r) = zero-le
 
 -- the keys of entries made of bytes
 module _ (L : Layout) where

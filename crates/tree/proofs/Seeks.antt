@@ -14,7 +14,7 @@ use Rattle.keys.specs.Search.{lastAtMost, start}
 use Rattle.search.specs.SearchTree.{children}
 use Rattle.search.specs.Answer.{Answer, found, absent, refused, counted, orNext, inTurn}
 use Rattle.search.specs.Descent.{picked, descend}
-use Rattle.search.proofs.Few.{Few, few-absent, direct-ends, behind-direct}
+use Rattle.search.proofs.Few.{answer-ends, behind-direct}
 use Rattle.page.specs.declared.Layout.{Layout}
 use Rattle.page.specs.declared.Link.{Link}
 use Rattle.page.specs.Page.{page, entries, keyIn, pageFits}
@@ -48,13 +48,13 @@ present (Turned r) t m e = let clash : _≡_ {A = ℕ} 0 1 = cc in omega arith
 
 -- f is what was handed on of the first child's answer a, when n pages and this one had been read
 module _ (L : Layout) (n : ℕ) (a : Answer (List ℕ)) (f : Found) (first-is : f ≡ shown L (counted (n + 1) a)) where
-  pub absent-pages : (m : ℕ) → f ≡ Absent m → (l : ℕ) → Few l a → m ≤ n + 1 + (l + 1)
+  pub absent-pages : (m : ℕ) → f ≡ Absent m → (l : ℕ) → ((j : ℕ) → a ≡ absent j → j ≤ l + 1) → m ≤ n + 1 + (l + 1)
   unfolding shown counted
   absent-pages m e l b = by a first-is b
     where
-      by : (x : Answer (List ℕ)) → f ≡ shown L (counted (n + 1) x) → Few l x → m ≤ n + 1 + (l + 1)
+      by : (x : Answer (List ℕ)) → f ≡ shown L (counted (n + 1) x) → ((j : ℕ) → x ≡ absent j → j ≤ l + 1) → m ≤ n + 1 + (l + 1)
       by (found y j) q b = let clash : _≡_ {A = ℕ} 0 1 = cc in absurd (omega arith)
-      by (absent j) q (few-absent b) = let same : m ≡ n + 1 + j = cc in omega arith
+      by (absent j) q b = let same : m ≡ n + 1 + j = cc in omega (arith, b j refl)
       by (refused r) q b = let clash : _≡_ {A = ℕ} 0 1 = cc in absurd (omega arith)
 
   pub absent-goes : (m : ℕ) (later : Answer (List ℕ)) → f ≡ Absent m → counted m later ≡ counted n (counted 1 (orNext a later))
@@ -107,6 +107,6 @@ module _ (L : Layout) (image : List ℕ) (k n : ℕ) (p : Link) (v : Verdict) (p
     unfolding inTurn
     seek-second m d ds e z =
         let b = first-child ∙ ap (λ (cs : List Link). c ∷ cs) z in
-        ap (counted m) (sym (direct-ends _ (behind-direct (pageTree L image) (sorted L image) (filled L image) k (l - 1) p c d ds (test-is L image (suc (l - 1)) p ∙ sym page-is ∙ q) (here (c ∷ d ∷ ds) b))))
+        ap (counted m) (sym (answer-ends _ _ (behind-direct (pageTree L image) (sorted L image) (filled L image) k (l - 1) p c d ds (test-is L image (suc (l - 1)) p ∙ sym page-is ∙ q) (here (c ∷ d ∷ ds) b) .some-answer)))
         ∙ absent-goes L n (go (l - 1) c) f first-is m (inTurn (λ c. go (l - 1) c) (d ∷ ds)) e
         ∙ index (c ∷ d ∷ ds) b

@@ -14,8 +14,8 @@ use Rattle.refusal.specs.Order.{_at_, _then_}
 use Rattle.refusal.proofs.OrderLaws.{goes, ends, in-order-append}
 use Rattle.keys.specs.Records.{recordsFrom}
 use Rattle.keys.specs.Range.{endOf}
-use Rattle.search.specs.SearchTree.{offspring, test, rulesUnder, checkUnder}
-use Rattle.search.proofs.Checked.{each, each-none, each-more, under-leaf, under-index, under-refused}
+use Rattle.search.specs.SearchTree.{offspring, test, rulesUnder, checkUnder, each}
+use Rattle.search.proofs.Checked.{each-none, each-more, under-leaf, under-index, under-refused}
 use Rattle.search.proofs.Born.{Born, of-born}
 use Rattle.header.specs.Header.{headerRules, headerFits}
 use Rattle.page.specs.declared.Layout.{Layout}

@@ -9,9 +9,9 @@ use Rattle.page.specs.declared.Layout.{Layout}
 use Rattle.page.specs.declared.Link.{Link}
 use Rattle.keys.specs.declared.End.{End}
 use Rattle.keys.specs.declared.Sought.the-variants.{Equal}
-use Rattle.keys.specs.Records.{recordsFrom}
 use Rattle.keys.specs.Search.{lastAtMost}
 use Rattle.search.specs.SearchTree.{offspring}
+use Rattle.search.specs.Records.{childrenFrom}
 use Rattle.search.specs.Descent.{fromSeat}
 use Rattle.search.specs.Answer.{Answer, found, absent, refused}
 use Rattle.page.specs.Layout.{nbt, bbt, shape}
@@ -73,8 +73,7 @@ nextBlockOf image from = asBlock (shown bbt (next bbt image from))
 -- the children of a page from the i-th on
 unfoldable pub kidsFrom : Layout → List ℕ → ℕ → Link → ℕ → List Link
 kidsFrom L image l p i =
-    offspring (keyIn L) (linkOf L l) (p .range .to)
-    (recordsFrom (shape L (levelOf L (page image (p .offset)))) (countOf L (page image (p .offset))) (page image (p .offset)) i)
+    childrenFrom (keyIn L) (linkOf L l) (p .range .to) (shape L (levelOf L (page image (p .offset)))) (countOf L (page image (p .offset))) (page image (p .offset)) i
 
 -- the chosen child of a page g, or none
 unfoldable pub chosenOf : Layout → ℕ → End → ℕ → List ℕ → List Link

@@ -5,15 +5,19 @@ use mathlib.Core.Logic.{_↔_}
 use mathlib.Core.List.{List, map, List·Memᴰ}
 use lib.ListN.{length}
 use Rattle.le.specs.Bytes.{part}
+use Rattle.refusal.specs.declared.Refusal.{Refusal}
 use Rattle.refusal.specs.declared.Verdict.the-variants.{Accepted}
+use Rattle.refusal.specs.Order.{FirstFault}
+use Rattle.keys.specs.declared.Sought.{Sought}
 use Rattle.keys.specs.Plain.{All, Ascending, Missing, Distinct}
 use Rattle.keys.specs.Search.{withKey}
-use Rattle.search.specs.Answer.{found, absent, answer}
+use Rattle.search.specs.Answer.{found, absent, refused, answer}
+use Rattle.search.specs.Promises.{Counts}
 use Rattle.page.specs.declared.Layout.{Layout}
 use Rattle.page.specs.Layout.{compared, FairLayout}
 use Rattle.page.specs.Page.{page, keyIn}
 use Rattle.tree.specs.Tree.{rootLevel, treeFits, scan, allRoutes}
-use Rattle.tree.specs.Lookup.{lookup, path}
+use Rattle.tree.specs.Lookup.{searched, lookup, path, searchRules, pagesRead}
 
 pub record Demand3 (L : Layout) (image : List ℕ) : Type 0 where
   -- for every key the quick descent answers as a plain scan of all leaf entries does, and never refuses; the page count is the length of the key's path
@@ -39,3 +43,28 @@ pub record AgreeOnPath (L : Layout) (key : ℕ) (one other : List ℕ) : Type 0 
 
 abbrev pub OffPathHolds : Type 0
 OffPathHolds = (L : Layout) (key : ℕ) (one other : List ℕ) → FairLayout L → AgreeOnPath L key one other → lookup L one key ≡ lookup L other key
+
+-- and of either call: images that agree in length, in the header's 564 bytes and on the pages that the call reads
+pub record AgreeOnRead (s : Sought) (L : Layout) (key : ℕ) (one other : List ℕ) : Type 0 where
+  pub same-length : length one ≡ length other
+  pub same-header : part one 0 564 ≡ part other 0 564
+  pub same-pages : All (λ offset. page one offset ≡ page other offset) (pagesRead s L one key)
+
+abbrev pub OffReadHolds : Type 0
+OffReadHolds = (s : Sought) (L : Layout) (key : ℕ) (one other : List ℕ) → FairLayout L → AgreeOnRead s L key one other → searched s L one key ≡ searched s L other key
+
+-- in any image at all: the count is the length of the path, unless the lookup is refused; and the path is short
+pub record PathCounted (L : Layout) (image : List ℕ) (key : ℕ) : Type 0 where
+  pub counts : Counts (length (path L image key)) (lookup L image key)
+  pub short : length (path L image key) ≤ rootLevel L image + 1
+
+abbrev pub PathCountedHolds : Type 0
+PathCountedHolds = (L : Layout) (image : List ℕ) (key : ℕ) → PathCounted L image key
+
+-- of either call: it is refused exactly with the first fault of the rules that it tries, and counts the pages that it reads
+pub record ReadInOrder (s : Sought) (L : Layout) (image : List ℕ) (key : ℕ) : Type 0 where
+  pub first-fault : (r : Refusal) → (searched s L image key ≡ refused r) ↔ FirstFault (searchRules s L image key) r
+  pub counts : Counts (length (pagesRead s L image key)) (searched s L image key)
+
+abbrev pub ReadInOrderHolds : Type 0
+ReadInOrderHolds = (s : Sought) (L : Layout) (image : List ℕ) (key : ℕ) → ReadInOrder s L image key

@@ -4,17 +4,19 @@ use mathlib.Core.Path.{_≡_}
 use mathlib.Core.Logic.{_↔_}
 use mathlib.Core.Option.{none}
 use mathlib.Core.List.{List}
+use lib.ListN.{length}
 use Rattle.le.specs.Bytes.{Bytes}
 use Rattle.refusal.specs.declared.Verdict.the-variants.{Accepted}
+use Rattle.keys.specs.declared.Sought.the-variants.{AtLeast}
 use Rattle.keys.specs.Plain.{All}
 use Rattle.keys.specs.Search.{fromKey}
-use Rattle.search.specs.Promises.{Says, AtMost}
+use Rattle.search.specs.Promises.{Says}
 use Rattle.search.specs.Promises as search
 use Rattle.page.specs.declared.Layout.{Layout}
 use Rattle.page.specs.Layout.{compared}
 use Rattle.page.specs.Page.{keyIn}
 use Rattle.tree.specs.Tree.{rootLevel, treeFits, scan}
-use Rattle.tree.specs.Lookup.{next}
+use Rattle.tree.specs.Lookup.{next, pagesRead}
 
 -- going from k on, each time one above the key found, until the call answers absent or no key stands above the one found: these entries
 abbrev pub TreeLists : Layout → List ℕ → ℕ → List (List ℕ) → Type 0
@@ -30,9 +32,9 @@ pub record Listing (L : Layout) (image : List ℕ) : Type 0 where
 abbrev pub ListingHolds : Type 0
 ListingHolds = (L : Layout) (image : List ℕ) → treeFits L image ≡ Accepted → Listing L image
 
--- in any image at all, accepted or not, at most twice the root's level plus one pages are read
+-- in any image at all, accepted or not, refused or not, a listing reads at most twice the root's level plus one pages
 abbrev pub FewPagesHolds : Type 0
-FewPagesHolds = (L : Layout) (image : List ℕ) (from : ℕ) → AtMost (2 * rootLevel L image + 1) (next L image from)
+FewPagesHolds = (L : Layout) (image : List ℕ) (from : ℕ) → length (pagesRead AtLeast L image from) ≤ 2 * rootLevel L image + 1
 
 -- going from 0 lists exactly the scan, in order, and ends; a key that stands in the tree can be sought
 abbrev pub ListsHolds : Type 0

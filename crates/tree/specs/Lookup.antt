@@ -1,12 +1,12 @@
 -- Document 01, "Pages and trees": "Lookup: header, then the root page, then in each index page the last entry whose key is at most the key sought." Assumes nothing: these are definitions.
 use Prim.Native.Nat.{ℕ}
-use mathlib.Core.List.{List, map}
-use Rattle.refusal.specs.Order.{after}
+use mathlib.Core.List.{List, [], _++_, map}
+use Rattle.refusal.specs.Order.{Rule, after}
 use Rattle.keys.specs.declared.Sought.{Sought}
 use Rattle.keys.specs.declared.Sought.the-variants.{Equal, AtLeast}
 use Rattle.search.specs.Answer.{Answer, refused}
-use Rattle.search.specs.Descent.{descend, pathUnder}
-use Rattle.header.specs.Header.{headerFits}
+use Rattle.search.specs.Descent.{descend, reads, rulesRead, pathUnder}
+use Rattle.header.specs.Header.{headerRules, headerFits}
 use Rattle.page.specs.declared.Layout.{Layout}
 use Rattle.page.specs.Layout.{compared}
 use Rattle.tree.specs.Tree.{root, rootLevel, pageTree}
@@ -25,3 +25,11 @@ next L image from = searched AtLeast L image from
 -- "The path is this list of pages and the reported count is its length."
 unfoldable pub path : Layout → List ℕ → ℕ → List ℕ
 path L image key = map (λ p. p .offset) (pathUnder (pageTree L image) (compared L key) (rootLevel L image) (root L image))
+
+-- the rules that either call tries, in the order in which it tries them: the header's, then those of each page that it reads
+unfoldable pub searchRules : Sought → Layout → List ℕ → ℕ → List Rule
+searchRules s L image key = headerRules image ++ rulesRead (pageTree L image) s (compared L key) (rootLevel L image) (root L image)
+
+-- the offsets of the pages that it reads, from the first to the last; none where the header is refused
+unfoldable pub pagesRead : Sought → Layout → List ℕ → ℕ → List ℕ
+pagesRead s L image key = after (λ r. []) (headerFits image) (map (λ p. p .offset) (reads (pageTree L image) s (compared L key) (rootLevel L image) (root L image)))

@@ -135,17 +135,21 @@ fn table(block: &[u8]) {
 }
 
 pub fn store_heap() {
-    let mut letters = io::buffer();
-    let n = said::load(b"3.8_heap_pc.hex", &mut letters);
     let mut block = [0u8; 512];
-    let size = text::unhex(&letters[..n], &mut block);
+    let file = text::load_hex(b"3.8_heap_pc.hex", &mut block);
+    if !file.whole {
+        return;
+    }
+    let size = file.size;
     store(&block[..size]);
 }
 
 pub fn table_heap() {
-    let mut letters = io::buffer();
-    let n = said::load(b"3.11_tc.hex", &mut letters);
     let mut block = [0u8; 512];
-    let size = text::unhex(&letters[..n], &mut block);
+    let file = text::load_hex(b"3.11_tc.hex", &mut block);
+    if !file.whole {
+        return;
+    }
+    let size = file.size;
     table(&block[..size]);
 }

@@ -31,10 +31,12 @@ fn header_checksum(header: &[u8], size: usize, place: usize) {
 }
 
 fn header_checksums() {
-    let mut letters = io::buffer();
-    let n = said::load(b"3.2_header.hex", &mut letters);
     let mut header = [0u8; 564];
-    let size = text::unhex(&letters[..n], &mut header);
+    let file = text::load_hex(b"3.2_header.hex", &mut header);
+    if !file.whole {
+        return;
+    }
+    let size = file.size;
     pages::header_line(b"3.2", &header[..size]);
     header_checksum(&header[..size], 471, 4);
     header_checksum(&header[..size], 516, 524);
@@ -147,7 +149,11 @@ fn coding_lines(letters: &[u8]) {
 
 fn coding_vectors() {
     let mut letters = io::buffer();
-    let n = said::load(b"5.2_cyclic_vectors.txt", &mut letters);
+    let file = said::load(b"5.2_cyclic_vectors.txt", &mut letters);
+    if !file.whole {
+        return;
+    }
+    let n = file.size;
     coding_lines(&letters[..n]);
 }
 

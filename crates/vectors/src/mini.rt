@@ -168,8 +168,18 @@ fn tree_lines(image: &[u8]) {
     list(image, true);
 }
 
-pub fn real_pages() {
+fn image_lines(name: &[u8]) {
     let mut buffer = io::large_buffer();
-    let n = said::load(b"real_mini_64bit.img", &mut buffer);
+    let file = said::load(name, &mut buffer);
+    if !file.whole {
+        return;
+    }
+    let n = file.size;
     tree_lines(&buffer[..n]);
+}
+
+// The second has zeros behind the first, to one byte more than the programs work on.
+pub fn real_pages() {
+    image_lines(b"real_mini_64bit.img");
+    image_lines(b"real_mini_65537.img");
 }

@@ -76,10 +76,12 @@ fn room_line(section: &[u8], size: u32) {
 }
 
 fn page_lines(section: &[u8], name: &[u8], offset: u64, number: u64) {
-    let mut letters = io::buffer();
-    let n = said::load(name, &mut letters);
     let mut page = [0u8; 512];
-    let size = text::unhex(&letters[..n], &mut page);
+    let file = text::load_hex(name, &mut page);
+    if !file.whole {
+        return;
+    }
+    let size = file.size;
     checksum_line(section, &page[..size], 496, 500);
     signature_line(section, &page[..size], 498, offset, number);
 }
@@ -89,10 +91,12 @@ fn block_lines(section: &[u8], name: &[u8], data: u32, offset: u64, number: u64)
         return;
     }
     room_line(section, data);
-    let mut letters = io::buffer();
-    let n = said::load(name, &mut letters);
     let mut room = [0u8; 448];
-    let size = text::unhex(&letters[..n], &mut room);
+    let file = text::load_hex(name, &mut room);
+    if !file.whole {
+        return;
+    }
+    let size = file.size;
     if size < 16 {
         return;
     }

@@ -1,5 +1,6 @@
 // Files of hexadecimal text, and lines of output.
 use libc::STDOUT_FILENO;
+use said::Loaded;
 ghost use Prim.Native.Nat.{_≤_, _<_};
 ghost use lib.ListN.{length};
 ghost use Rattle.io.specs.Counts.{Counts};
@@ -45,6 +46,20 @@ pub fn unhex(text: &[u8], out: &mut [u8]) -> usize
         }
     }
     n
+}
+
+// The bytes that a file of digits stands for, at the front of `out`.
+pub fn load_hex(name: &[u8], out: &mut [u8]) -> Loaded
+    ensures { λ r. ⌜ Counts (r .size) (now (out .exit)) ⌝ }
+{
+    let mut letters = io::buffer();
+    let file = said::load(name, &mut letters);
+    let n = file.size;
+    let size = unhex(&letters[..n], out);
+    Loaded {
+        whole: file.whole,
+        size,
+    }
 }
 
 fn is_blank(character: u8) -> bool {

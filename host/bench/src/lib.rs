@@ -3,7 +3,7 @@
 use model::build::heaps::{property_context, HeapPlan};
 use model::build::{build, Built, Plan};
 use model::random::Random;
-use rekwonuda::{Heap, Image};
+use rekwonuda_sys as proved;
 use std::sync::Arc;
 
 const LARGEST_BLOCK: usize = 8_176;
@@ -64,21 +64,22 @@ fn checksums() -> Vec<Case> {
         Case::new(
             "checksum",
             format!("{length} bytes"),
-            move || rekwonuda::checksum(&left).into(),
+            move || proved::checksum(&left),
             move || model::checksum(&right).into(),
         )
     };
     vec![case(4096), case(8192)]
 }
 
-type Coding<R> = fn(u8, u64, &mut [u8]) -> Result<(), R>;
+type Coding<R> = fn(u8, u64, &mut [u8]) -> R;
+type ModelCoding = Coding<Result<(), model::Refusal>>;
 
 fn codings() -> Vec<Case> {
     let mut cases = Vec::new();
     for (method, name) in [(1, "permute"), (2, "cyclic")] {
         let input = format!("{name}, 8192 bytes");
-        let encode = (rekwonuda::encode as Coding<_>, model::encode as Coding<_>);
-        let decode = (rekwonuda::decode as Coding<_>, model::decode as Coding<_>);
+        let encode = (proved::encode as Coding<_>, model::encode as ModelCoding);
+        let decode = (proved::decode as Coding<_>, model::decode as ModelCoding);
         cases.push(coding("encode", &input, method, encode));
         cases.push(coding("decode", &input, method, decode));
     }
@@ -89,14 +90,14 @@ fn coding(
     call: &'static str,
     input: &str,
     method: u8,
-    (proved, model): (Coding<rekwonuda::Refusal>, Coding<model::Refusal>),
+    (proved, model): (Coding<proved::Answer>, ModelCoding),
 ) -> Case {
     let (mut left, mut right) = (bytes(8192), bytes(8192));
     Case::new(
         call,
         input,
         move || {
-            proved(method, 0x1518, &mut left).expect("the method is right");
+            assert_eq!(proved(method, 0x1518, &mut left).refusal, 0);
             left[0].into()
         },
         move || {
@@ -116,11 +117,7 @@ fn headers() -> Vec<Case> {
     vec![Case::new(
         "header",
         "part of every call on an image",
-        move || {
-            Image(&left.image)
-                .header()
-                .map_or(0, |header| header.nodes.offset)
-        },
+        move || proved::header(&left.image).nodes_offset,
         move || model::header(&right.image).map_or(0, |header| header.nodes.offset),
     )]
 }
@@ -133,7 +130,7 @@ fn tree_checks() -> Vec<Case> {
     let nodes = Case::new(
         "check_nodes",
         "6000 nodes, level 2",
-        move || u64::from(Image(&left.image).check_nodes().is_ok()),
+        move || u64::from(proved::check_nodes(&left.image).refusal == 0),
         move || u64::from(model::check_nodes(&right.image).is_ok()),
     );
     let (left, right) = image(Plan {
@@ -144,7 +141,7 @@ fn tree_checks() -> Vec<Case> {
     let blocks = Case::new(
         "check_blocks",
         "8000 blocks, level 2",
-        move || u64::from(Image(&left.image).check_blocks().is_ok()),
+        move || u64::from(proved::check_blocks(&left.image).refusal == 0),
         move || u64::from(model::check_blocks(&right.image).is_ok()),
     );
     vec![nodes, blocks]
@@ -166,21 +163,13 @@ fn node_lookups() -> Vec<Case> {
         cases.push(Case::new(
             "find_node",
             input.clone(),
-            move || {
-                Image(&left.image)
-                    .find_node(key)
-                    .map_or(0, |found| found.pages)
-            },
+            move || proved::find_node(&left.image, key).pages,
             move || model::find_node(&right.image, key).map_or(0, |found| pages(&found)),
         ));
         cases.push(Case::new(
             "next_node",
             input,
-            move || {
-                Image(&listed.image)
-                    .next_node(key)
-                    .map_or(0, |found| found.pages)
-            },
+            move || proved::next_node(&listed.image, key).pages,
             move || model::next_node(&also_listed.image, key).map_or(0, |found| pages(&found)),
         ));
     }
@@ -200,11 +189,7 @@ fn block_lookups() -> Vec<Case> {
         cases.push(Case::new(
             "find_block",
             format!("level {level}, {spare_blocks} blocks"),
-            move || {
-                Image(&left.image)
-                    .find_block(key)
-                    .map_or(0, |found| found.pages)
-            },
+            move || proved::find_block(&left.image, key).pages,
             move || model::find_block(&right.image, key).map_or(0, |found| pages(&found)),
         ));
     }
@@ -234,18 +219,14 @@ fn block_tests() -> Vec<Case> {
             cases.push(Case::new(
                 "test_block",
                 format!("{size} bytes, level 1"),
-                move || Image(&left.image).test_block(key).unwrap_or(0),
+                move || proved::test_block(&left.image, key).size,
                 move || model::test_block(&right.image, key).map_or(0, u64::from),
             ));
         }
         cases.push(Case::new(
             "read_block",
             format!("{size} bytes, {name}"),
-            move || {
-                Image(&read.image)
-                    .read_block(key, &mut out)
-                    .map_or(0, |length| length as u64)
-            },
+            move || proved::read_block(&read.image, key, &mut out).length,
             move || {
                 model::read_block(&also_read.image, key, &mut also_out)
                     .map_or(0, |length| length as u64)
@@ -272,7 +253,7 @@ fn node_reads() -> Vec<Case> {
         cases.push(Case::new(
             "read_node",
             format!("{most_children} blocks, {length} bytes, permute"),
-            move || Image(&left.image).read_node(key, &mut out).map_or(0, count),
+            move || proved::read_node(&left.image, key, &mut out).length,
             move || model::read_node(&right.image, key, &mut also_out).map_or(0, count),
         ));
     }
@@ -296,10 +277,7 @@ fn properties() -> Vec<Case> {
         cases.push(Case::new(
             "find_property",
             input,
-            move || {
-                let found = Heap(&left).find_property(id).ok().flatten();
-                found.map_or(0, |property| property.type_code.into())
-            },
+            move || proved::find_property(&left, id).type_code,
             move || {
                 let found = model::find_property(&right, id).ok().flatten();
                 found.map_or(0, |property| property.kind.into())

@@ -1,6 +1,7 @@
 //! One call, put to both.
 
-use crate::{answers, proved};
+use crate::answers;
+use rekwonuda_sys as proved;
 
 #[derive(Clone, Copy, PartialEq, Eq, PartialOrd, Ord, Debug)]
 pub enum Call {
@@ -172,13 +173,12 @@ fn read(ask: &Ask, lent: &[u8], own: &[u8], buffers: &mut Buffers) -> Answers {
     let (out, model_out) = buffers.lend();
     if ask.call == Call::ReadBlock {
         let model = model::read_block(own, number, model_out);
-        both(
-            proved::read_block(lent, number, out),
-            answers::length(model),
-        )
+        let proved = proved::read_block(lent, number, out);
+        both(proved.fields(), answers::length(model))
     } else {
         let model = model::read_node(own, number, model_out);
-        both(proved::read_node(lent, number, out), answers::data(model))
+        let proved = proved::read_node(lent, number, out);
+        both(proved.fields(), answers::data(model))
     }
 }
 
@@ -187,18 +187,26 @@ fn code(ask: &Ask, buffers: &mut Buffers) -> Answers {
     let (bytes, model_bytes) = buffers.lend();
     if ask.call == Call::Encode {
         let model = model::encode(method, number, model_bytes);
-        both(proved::encode(method, number, bytes), answers::plain(model))
+        let proved = proved::encode(method, number, bytes);
+        both(proved.fields(), answers::plain(model))
     } else {
         let model = model::decode(method, number, model_bytes);
-        both(proved::decode(method, number, bytes), answers::plain(model))
+        let proved = proved::decode(method, number, bytes);
+        both(proved.fields(), answers::plain(model))
     }
 }
 
-/// The same call of both, its answer as the fields of that shape.
+/// The same call of both, its answer as the fields of that shape, or as a number.
 macro_rules! put_to_both {
+    ($call:ident, $lent:expr, $own:expr $(, $argument:expr)*) => {
+        both(
+            answers::number(proved::$call($lent $(, $argument)*)),
+            answers::number(model::$call($own $(, $argument)*)),
+        )
+    };
     ($call:ident as $shape:ident, $lent:expr, $own:expr $(, $argument:expr)*) => {
         both(
-            proved::$call($lent $(, $argument)*),
+            proved::$call($lent $(, $argument)*).fields(),
             answers::$shape(model::$call($own $(, $argument)*)),
         )
     };
@@ -219,8 +227,8 @@ fn look(ask: &Ask, lent: &[u8], own: &[u8]) -> Answers {
         Call::TestItem => put_to_both!(test_item as plain, lent, own, number as u32),
         Call::Item => put_to_both!(item as item, lent, own, number as u32),
         Call::FindProperty => put_to_both!(find_property as property, lent, own, number as u16),
-        Call::Signature => put_to_both!(signature as number, ask.offset, ask.offset, number),
-        Call::Room => put_to_both!(room as number, number as u32, number as u32),
-        _ => put_to_both!(checksum as number, lent, own),
+        Call::Signature => put_to_both!(signature, ask.offset, ask.offset, number),
+        Call::Room => put_to_both!(room, number as u32, number as u32),
+        _ => put_to_both!(checksum, lent, own),
     }
 }

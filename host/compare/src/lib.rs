@@ -3,7 +3,6 @@
 
 pub mod answers;
 pub mod ask;
-pub mod proved;
 pub mod run;
 pub mod subject;
 pub mod tally;

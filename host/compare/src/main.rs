@@ -1,40 +1,23 @@
 //! A longer comparison: `compare --calls 20000000 --seed 7`.
 
+use clap::Parser;
 use compare::run::Run;
 use std::process::ExitCode;
 use std::time::Instant;
 
+/// Puts the same calls to the proved library and to the model, and counts what they answer.
+#[derive(Parser)]
 struct Arguments {
+    /// How many calls are made, at least
+    #[arg(long, default_value_t = 1_000_000)]
     calls: u64,
+    /// What images and numbers are drawn from
+    #[arg(long, default_value_t = 1)]
     seed: u64,
 }
 
-fn arguments() -> Result<Arguments, String> {
-    let mut read = Arguments {
-        calls: 1_000_000,
-        seed: 1,
-    };
-    let mut words = std::env::args().skip(1);
-    while let Some(word) = words.next() {
-        let value = words.next().ok_or(format!("{word} needs a number"))?;
-        let number = value.parse().map_err(|_| format!("{value} is no number"))?;
-        match word.as_str() {
-            "--calls" => read.calls = number,
-            "--seed" => read.seed = number,
-            _ => return Err(format!("{word} is not known; there are --calls and --seed")),
-        }
-    }
-    Ok(read)
-}
-
 fn main() -> ExitCode {
-    let Arguments { calls, seed } = match arguments() {
-        Ok(arguments) => arguments,
-        Err(error) => {
-            eprintln!("compare: {error}");
-            return ExitCode::from(2);
-        }
-    };
+    let Arguments { calls, seed } = Arguments::parse();
     let start = Instant::now();
     let mut run = Run::new(seed);
     let mut next = 1_000_000;

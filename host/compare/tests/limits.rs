@@ -1,9 +1,10 @@
 //! The longest image that is read, and one byte more. Nearly all of it is zeros that nobody touches.
 
-use compare::{answers, proved};
+use compare::answers;
 use model::build::seal::{seal_header, seal_page};
 use model::build::{build, Built, Plan};
 use model::header::MOST_IMAGE;
+use rekwonuda_sys as proved;
 
 fn put(image: &mut [u8], at: usize, number: u64) {
     image[at..at + 8].copy_from_slice(&number.to_le_bytes());
@@ -32,16 +33,19 @@ fn long(length: usize, offset: usize) -> Vec<u8> {
 }
 
 fn compare(image: &[u8], node: u64) -> u64 {
-    assert_eq!(proved::header(image), answers::header(model::header(image)));
     assert_eq!(
-        proved::check_nodes(image),
+        proved::header(image).fields(),
+        answers::header(model::header(image))
+    );
+    assert_eq!(
+        proved::check_nodes(image).fields(),
         answers::plain(model::check_nodes(image))
     );
     assert_eq!(
-        proved::check_blocks(image),
+        proved::check_blocks(image).fields(),
         answers::plain(model::check_blocks(image))
     );
-    let found = proved::find_node(image, node);
+    let found = proved::find_node(image, node).fields();
     assert_eq!(found, answers::node(model::find_node(image, node)));
     found[0]
 }

@@ -35,7 +35,7 @@ pub(crate) struct Heap<'a> {
 
 impl<'a> Heap<'a> {
     pub fn test(block: &'a [u8]) -> Answer<Self> {
-        let heap = Self::shaped(block).filter(|heap| heap.offsets_right());
+        let heap = Self::shaped(block).filter(Heap::offsets_right);
         heap.ok_or(Refusal::new(18, 0))
     }
 

@@ -164,7 +164,7 @@ fn is_numbered(bytes: &[u8], reference: Reference) -> bool {
 
 fn counts_right(bytes: &[u8], tree: Tree, level: Option<u8>) -> bool {
     let [count, room, size, own] = [bytes[488], bytes[489], bytes[490], bytes[491]];
-    let least = if level.is_none() && own == 0 { 0 } else { 1 };
+    let least = u8::from(level.is_some() || own > 0);
     level.map_or(own <= MOST_LEVEL, |level| own == level)
         && usize::from(size) == tree.entry_size(own)
         && usize::from(room) <= tree.most_entries(own)

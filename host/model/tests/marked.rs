@@ -13,7 +13,7 @@ fn room_of_a_block() {
 
 #[test]
 fn signature_of_offset_and_number() {
-    assert_eq!(signature(0x908A00, 0x1518), 0x9F88);
+    assert_eq!(signature(0x0090_8A00, 0x1518), 0x9F88);
     assert_eq!(signature(0x1234_5678_9ABC, 0x1234_5678_9ABC), 0);
     assert_eq!(signature(1 << 32, 0), 0);
 }

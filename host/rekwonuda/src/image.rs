@@ -1,240 +1,239 @@
-use crate::{sys, Refusal};
+use crate::refusal::answered;
+use crate::{
+    Block, BlockId, Blocks, Fault, Header, Lookup, Node, NodeId, Nodes, Refusal, LARGEST_BLOCK,
+};
+use rekwonuda_sys as sys;
 
 /// The bytes of a .pst file, from its first.
 ///
 /// Any bytes will do. Every call checks all that its answer rests on, so that none needs another to
 /// have been made before it.
+///
+/// ```
+/// use rekwonuda::{Image, NodeId};
+///
+/// let bytes = std::fs::read("../../samples/office.pst")?;
+/// let image = Image::new(&bytes);
+/// image.check_nodes()?;
+/// image.check_blocks()?;
+/// let note = image.node_data(NodeId(0x20_0284))?.expect("it is there");
+/// assert!(note.starts_with(b"Line 1 of the long note."));
+/// # Ok::<(), Box<dyn std::error::Error>>(())
+/// ```
 #[derive(Clone, Copy, Debug)]
-pub struct Image<'a>(pub &'a [u8]);
-
-/// What the header says.
-#[derive(Clone, Copy, Debug, PartialEq, Eq)]
-pub struct Header {
-    /// How block data is encoded: 0 not at all, 1 permute, 2 cyclic.
-    pub method: u8,
-    /// The root page of the node tree.
-    pub nodes: PageReference,
-    /// The root page of the block tree.
-    pub blocks: PageReference,
-}
-
-/// The number of a page and where it stands.
-#[derive(Clone, Copy, Debug, PartialEq, Eq)]
-pub struct PageReference {
-    /// Its number.
-    pub number: u64,
-    /// Its offset in the image.
-    pub offset: u64,
-}
-
-/// What a lookup found, and how many pages it read.
-#[derive(Clone, Copy, Debug, PartialEq, Eq)]
-pub struct Lookup<T> {
-    /// The entry, or `None` where it is absent.
-    pub entry: Option<T>,
-    /// How many pages were read, also where the entry is absent.
-    pub pages: u64,
-}
-
-/// A node as the node tree lists it.
-#[derive(Clone, Copy, Debug, PartialEq, Eq)]
-pub struct Node {
-    /// Its number, under 2^32.
-    pub node: u64,
-    /// The number of its data block, 0 for none.
-    pub data: u64,
-    /// The number of its subnode block, 0 for none.
-    pub subnode: u64,
-    /// The number of its parent node.
-    pub parent: u64,
-}
-
-/// A block as the block tree lists it.
-#[derive(Clone, Copy, Debug, PartialEq, Eq)]
-pub struct Block {
-    /// Its number as stored.
-    pub block: u64,
-    /// Where it starts in the image.
-    pub offset: u64,
-    /// How many bytes it holds.
-    pub size: u64,
-    /// How often it is referred to.
-    pub references: u64,
-}
-
-impl Node {
-    /// Whether its data is a data tree: several blocks, named by an internal one.
-    pub fn has_data_tree(&self) -> bool {
-        is_internal(self.data)
-    }
-}
-
-impl Block {
-    /// Whether it is internal: it names other blocks, and is never encoded.
-    pub fn is_internal(&self) -> bool {
-        is_internal(self.block)
-    }
-}
-
-fn is_internal(block: u64) -> bool {
-    block & 2 != 0
-}
+pub struct Image<'a>(&'a [u8]);
 
 impl<'a> Image<'a> {
-    /// Tests the header and says what stands in it. Refusals 1 to 5.
+    /// Takes the bytes of a .pst file as they are. Nothing is tested yet.
+    #[must_use]
+    pub const fn new(bytes: &'a [u8]) -> Self {
+        Self(bytes)
+    }
+
+    /// The bytes themselves.
+    #[must_use]
+    pub const fn bytes(&self) -> &'a [u8] {
+        self.0
+    }
+
+    /// Tests the header and says what stands in it.
+    ///
+    /// # Errors
+    ///
+    /// Refusals 1 to 5.
     pub fn header(&self) -> Result<Header, Refusal> {
-        let answer = sys::header(self.0)?;
-        Ok(Header {
-            method: answer.method as u8,
-            nodes: PageReference {
-                number: answer.nodes_number,
-                offset: answer.nodes_offset,
-            },
-            blocks: PageReference {
-                number: answer.blocks_number,
-                offset: answer.blocks_offset,
-            },
-        })
+        answered(sys::header(self.0)).map(|answer| Header::of(&answer))
     }
 
-    /// Checks the header and then the whole node tree. Refusals 1 to 11.
+    /// Checks the header and then the whole node tree.
+    ///
+    /// # Errors
+    ///
+    /// Refusals 1 to 11.
     pub fn check_nodes(&self) -> Result<(), Refusal> {
-        sys::check_nodes(self.0).map(|_| ())
+        answered(sys::check_nodes(self.0)).map(drop)
     }
 
-    /// Checks the header and then the whole block tree. Refusals 1 to 11.
+    /// Checks the header and then the whole block tree.
+    ///
+    /// # Errors
+    ///
+    /// Refusals 1 to 11.
     pub fn check_blocks(&self) -> Result<(), Refusal> {
-        sys::check_blocks(self.0).map(|_| ())
+        answered(sys::check_blocks(self.0)).map(drop)
     }
 
-    /// Looks up a node by the low four bytes of its number. Refusals 1 to 11.
-    pub fn find_node(&self, node: u64) -> Result<Lookup<Node>, Refusal> {
-        sys::find_node(self.0, node).map(node_lookup)
+    /// Looks up a node.
+    ///
+    /// # Errors
+    ///
+    /// Refusals 1 to 11, of the header and of the pages on the way.
+    pub fn find_node(&self, node: NodeId) -> Result<Lookup<Node>, Refusal> {
+        answered(sys::find_node(self.0, node.0.into())).map(|answer| Lookup::<Node>::of(&answer))
     }
 
-    /// Looks up a block by its number. Refusals 1 to 11.
-    pub fn find_block(&self, block: u64) -> Result<Lookup<Block>, Refusal> {
-        sys::find_block(self.0, block).map(block_lookup)
+    /// Looks up a block.
+    ///
+    /// # Errors
+    ///
+    /// Refusals 1 to 11, of the header and of the pages on the way.
+    pub fn find_block(&self, block: BlockId) -> Result<Lookup<Block>, Refusal> {
+        answered(sys::find_block(self.0, block.0)).map(|answer| Lookup::<Block>::of(&answer))
     }
 
-    /// Looks up the first node whose number is at least `from`. Refusals 1 to 11.
-    pub fn next_node(&self, from: u64) -> Result<Lookup<Node>, Refusal> {
-        sys::next_node(self.0, from).map(node_lookup)
+    /// Looks up the first node whose number is at least `from`.
+    ///
+    /// # Errors
+    ///
+    /// Refusals 1 to 11, of the header and of the pages on the way.
+    pub fn next_node(&self, from: NodeId) -> Result<Lookup<Node>, Refusal> {
+        answered(sys::next_node(self.0, from.0.into())).map(|answer| Lookup::<Node>::of(&answer))
     }
 
-    /// Looks up the first block whose number is at least `from`. Refusals 1 to 11.
-    pub fn next_block(&self, from: u64) -> Result<Lookup<Block>, Refusal> {
-        sys::next_block(self.0, from).map(block_lookup)
+    /// Looks up the first block whose number is at least `from`.
+    ///
+    /// # Errors
+    ///
+    /// Refusals 1 to 11, of the header and of the pages on the way.
+    pub fn next_block(&self, from: BlockId) -> Result<Lookup<Block>, Refusal> {
+        answered(sys::next_block(self.0, from.0)).map(|answer| Lookup::<Block>::of(&answer))
     }
 
-    /// All nodes in the order of their numbers. A refusal comes last.
+    /// All nodes in the order of their numbers, by [`Image::next_node`]. A refusal comes last.
     pub fn nodes(&self) -> Nodes<'a> {
-        Nodes {
-            image: *self,
-            from: Some(0),
-        }
+        Nodes::new(*self)
     }
 
-    /// All blocks in the order of their numbers. A refusal comes last.
+    /// All blocks in the order of their numbers, by [`Image::next_block`]. A refusal comes last.
     pub fn blocks(&self) -> Blocks<'a> {
-        Blocks {
-            image: *self,
-            from: Some(0),
-        }
+        Blocks::new(*self)
     }
 
     /// Looks up a block, tests its place, trailer and checksum, and says how many bytes it holds.
-    /// Refusals 1 to 15.
-    pub fn test_block(&self, block: u64) -> Result<u64, Refusal> {
-        sys::test_block(self.0, block).map(|answer| answer.size)
+    ///
+    /// # Errors
+    ///
+    /// Refusals 1 to 15; 12 where the block is not listed.
+    pub fn test_block(&self, block: BlockId) -> Result<usize, Refusal> {
+        answered(sys::test_block(self.0, block.0)).map(|answer| answer.size as usize)
     }
 
     /// Tests a block and puts its bytes at the front of `out`, decoded; says how many they are.
     /// Internal blocks are never encoded and come as they are stored. What follows in `out` stays as
-    /// it was. Refusals 1 to 15, and 17.
-    pub fn read_block(&self, block: u64, out: &mut [u8]) -> Result<usize, Refusal> {
-        sys::read_block(self.0, block, out).map(|answer| answer.length as usize)
+    /// it was.
+    ///
+    /// # Errors
+    ///
+    /// Refusals 1 to 15, and 17 where `out` is too short. `out` is then as it was.
+    pub fn read_block(&self, block: BlockId, out: &mut [u8]) -> Result<usize, Refusal> {
+        answered(sys::read_block(self.0, block.0, out)).map(|answer| answer.length as usize)
+    }
+
+    /// The bytes of a block in a buffer of their own, as [`Image::read_block`] gives them.
+    ///
+    /// # Errors
+    ///
+    /// Refusals 1 to 15.
+    pub fn block_data(&self, block: BlockId) -> Result<Vec<u8>, Refusal> {
+        let mut data = vec![0; LARGEST_BLOCK];
+        let length = self.read_block(block, &mut data)?;
+        data.truncate(length);
+        Ok(data)
+    }
+
+    /// Looks up a node, tests all blocks of its data and the shape of its data tree, and says how many
+    /// bytes the data has: 0 for a node without data, `None` where the node is absent.
+    ///
+    /// It is [`Image::read_node`] without a buffer: the refusal for that comes last, when all the rest
+    /// has been accepted.
+    ///
+    /// # Errors
+    ///
+    /// Refusals 1 to 16.
+    pub fn test_node(&self, node: NodeId) -> Result<Option<usize>, Refusal> {
+        match self.read_node(node, &mut []) {
+            Err(refusal) if refusal.fault == Fault::ShortBuffer => Ok(Some(refusal.more as usize)),
+            answer => answer,
+        }
     }
 
     /// Looks up a node and puts its data at the front of `out`; says how many bytes they are, or
-    /// `None` where the node is absent. What follows in `out` stays as it was. Refusals 1 to 17.
-    pub fn read_node(&self, node: u64, out: &mut [u8]) -> Result<Option<usize>, Refusal> {
-        let answer = sys::read_node(self.0, node, out)?;
+    /// `None` where the node is absent. What follows in `out` stays as it was.
+    ///
+    /// # Errors
+    ///
+    /// Refusals 1 to 16, and 17 where `out` is too short. `out` is then as it was.
+    pub fn read_node(&self, node: NodeId, out: &mut [u8]) -> Result<Option<usize>, Refusal> {
+        let answer = answered(sys::read_node(self.0, node.0.into(), out))?;
         Ok((answer.found == 1).then_some(answer.length as usize))
     }
 
     /// The data of a node in a buffer of its own, or `None` where the node is absent.
+    ///
+    /// # Errors
+    ///
     /// Refusals 1 to 16.
-    pub fn node_data(&self, node: u64) -> Result<Option<Vec<u8>>, Refusal> {
-        let mut data = match self.read_node(node, &mut []) {
-            Ok(found) => return Ok(found.map(|_| Vec::new())),
-            Err(refusal) if refusal.number == 17 => vec![0; refusal.more as usize],
-            Err(refusal) => return Err(refusal),
+    pub fn node_data(&self, node: NodeId) -> Result<Option<Vec<u8>>, Refusal> {
+        let Some(length) = self.test_node(node)? else {
+            return Ok(None);
         };
-        Ok(self.read_node(node, &mut data)?.map(|_| data))
+        let mut data = vec![0; length];
+        self.read_node(node, &mut data)?;
+        Ok(Some(data))
     }
-}
 
-fn node_lookup(answer: sys::NodeAnswer) -> Lookup<Node> {
-    Lookup {
-        entry: (answer.found == 1).then_some(Node {
-            node: answer.node,
-            data: answer.data,
-            subnode: answer.subnode,
-            parent: answer.parent,
-        }),
-        pages: answer.pages,
-    }
-}
-
-fn block_lookup(answer: sys::BlockAnswer) -> Lookup<Block> {
-    Lookup {
-        entry: (answer.found == 1).then_some(Block {
-            block: answer.block,
-            offset: answer.offset,
-            size: answer.size,
-            references: answer.references,
-        }),
-        pages: answer.pages,
-    }
-}
-
-/// All nodes of an image, from [`Image::nodes`].
-#[derive(Clone, Debug)]
-pub struct Nodes<'a> {
-    image: Image<'a>,
-    from: Option<u64>,
-}
-
-impl Iterator for Nodes<'_> {
-    type Item = Result<Node, Refusal>;
-
-    fn next(&mut self) -> Option<Self::Item> {
-        let found = self.image.next_node(self.from.take()?);
-        let entry = found.map(|lookup| lookup.entry).transpose()?;
-        if let Ok(node) = &entry {
-            self.from = (node.node < u64::from(u32::MAX)).then_some(node.node + 1);
+    /// The blocks that hold the data behind a node's data block, in the order of their bytes: the block
+    /// itself, or, where it is internal, those that it lists. One may be named twice.
+    ///
+    /// Of these blocks none is looked up or tested, so that a list can be had of data which is damaged;
+    /// only an internal block is read itself. That its bytes make a list is told by this crate and not
+    /// by the proved library; where they do not, the refusal is the one that [`Image::test_node`] gives.
+    ///
+    /// ```
+    /// use rekwonuda::{Image, NodeId};
+    ///
+    /// let bytes = std::fs::read("../../samples/office.pst")?;
+    /// let image = Image::new(&bytes);
+    /// let note = image.find_node(NodeId(0x20_0284))?.entry.expect("it is there");
+    /// let data = note.data.expect("it has data");
+    /// assert_eq!(image.data_blocks(data)?.len(), 3);
+    /// # Ok::<(), Box<dyn std::error::Error>>(())
+    /// ```
+    ///
+    /// # Errors
+    ///
+    /// Of an internal block alone: refusals 1 to 15, and 16 where it is no data tree of one level.
+    pub fn data_blocks(&self, data: BlockId) -> Result<Vec<BlockId>, Refusal> {
+        if !data.is_internal() {
+            return Ok(vec![data]);
         }
-        Some(entry)
-    }
-}
-
-/// All blocks of an image, from [`Image::blocks`].
-#[derive(Clone, Debug)]
-pub struct Blocks<'a> {
-    image: Image<'a>,
-    from: Option<u64>,
-}
-
-impl Iterator for Blocks<'_> {
-    type Item = Result<Block, Refusal>;
-
-    fn next(&mut self) -> Option<Self::Item> {
-        let found = self.image.next_block(self.from.take()?);
-        let entry = found.map(|lookup| lookup.entry).transpose()?;
-        if let Ok(block) = &entry {
-            self.from = block.block.checked_add(1);
+        if let Some(blocks) = listed_blocks(&self.block_data(data)?) {
+            return Ok(blocks);
         }
-        Some(entry)
+        let root = self.find_block(data)?.entry;
+        Err(Refusal {
+            fault: Fault::DataTree,
+            place: root.map_or(0, |root| root.offset),
+            more: 0,
+        })
     }
+}
+
+const MOST_LISTED: usize = 1_021;
+
+/// The blocks that the root block of a data tree of one level lists: 1, 1, their count in two bytes,
+/// four bytes more, and then eight bytes for each number.
+fn listed_blocks(root: &[u8]) -> Option<Vec<BlockId>> {
+    let (head, numbers) = root.split_first_chunk::<8>()?;
+    let count = usize::from(u16::from_le_bytes([head[2], head[3]]));
+    let blocks: Vec<BlockId> = numbers
+        .chunks(8)
+        .filter_map(|number| number.try_into().ok())
+        .map(|number| BlockId(u64::from_le_bytes(number)))
+        .collect();
+    let is_list = head[..2] == [1, 1]
+        && (1..=MOST_LISTED).contains(&count)
+        && root.len() == 8 + 8 * count
+        && !blocks.iter().any(|block| block.is_internal());
+    is_list.then_some(blocks)
 }

@@ -1,55 +1,84 @@
 //! A reader of Outlook .pst files of the 64-bit ("Unicode") edition in which nothing is taken on
 //! trust.
 //!
-//! Every call is answered by the proved library `rkw`; this crate gives its calls Rust's types and
-//! adds nothing to what they decide. A call answers, or it refuses with a [`Refusal`]: the first
-//! fault met, and its place. That something is absent is an answer and no refusal.
+//! A file may hold any bytes. A call answers, or it refuses with a [`Refusal`]: the first fault met, and
+//! its place. That something is absent is an answer and no refusal.
 //!
 //! ```
-//! use rekwonuda::Image;
+//! use rekwonuda::{Heap, Image, NodeId, Value};
 //!
-//! let bytes = std::fs::read(concat!(env!("CARGO_MANIFEST_DIR"), "/../../samples/mini.img")).unwrap();
-//! let node = Image(&bytes).find_node(0x122).unwrap().entry.unwrap();
-//! assert_eq!(node.data, 76);
+//! let bytes = std::fs::read("../../samples/office.pst")?;
+//! let image = Image::new(&bytes);
+//! let data = image.node_data(NodeId(0x21))?.expect("every store has this node");
+//! let heap = Heap::new(&data);
+//! let name = heap.find_property(0x3001)?.expect("the sample has a name");
+//! let Value::Item(item) = name.value else { panic!("a short text stands in the heap") };
+//! assert_eq!(heap.item(item)?, b"O\0f\0f\0i\0c\0e\0");
+//! # Ok::<(), Box<dyn std::error::Error>>(())
 //! ```
+//!
+//! # What is proved
+//!
+//! Every answer and every refusal is that of the proved library `rkw`, which is called through crate
+//! `rekwonuda-sys`. This crate gives its calls Rust's types. Code of its own, tested and not proved, are
+//! the words of a refusal and what is put together from several proved answers: the iterators
+//! [`Image::nodes`], [`Image::blocks`] and [`Heap::properties`], the buffers of [`Image::block_data`]
+//! and [`Image::node_data`], and [`Image::data_blocks`], which reads a list of blocks by itself.
 #![deny(missing_docs)]
-#![deny(unsafe_code)]
+#![forbid(unsafe_code)]
+#![warn(
+    clippy::must_use_candidate,
+    clippy::missing_errors_doc,
+    clippy::missing_panics_doc
+)]
 
+mod entry;
+mod fault;
 mod heap;
+mod id;
 mod image;
+mod list;
+mod method;
 mod refusal;
-mod sys;
 
-pub use heap::{Heap, Property, Value};
-pub use image::{Block, Blocks, Header, Image, Lookup, Node, Nodes, PageReference};
+pub use entry::{Block, Header, Lookup, Node, PageReference};
+pub use fault::Fault;
+pub use heap::{Heap, Properties, Property, Value};
+pub use id::{BlockId, ItemId, NodeId};
+pub use image::Image;
+pub use list::{Blocks, Nodes};
+pub use method::Method;
 pub use refusal::Refusal;
 
-/// The longest image that the library takes, in bytes.
+use rekwonuda_sys as sys;
+
+/// The shortest image that is taken, in bytes.
+pub const SHORTEST_IMAGE: u64 = 564;
+
+/// The longest image that is taken, in bytes: 1 GiB.
 pub const LONGEST_IMAGE: u64 = 1 << 30;
 
-/// Encodes `bytes` in place as the data of that block: method 0 leaves them, 1 is permute, 2 is
-/// cyclic. Refusal 5 for any other method.
-pub fn encode(method: u8, block: u64, bytes: &mut [u8]) -> Result<(), Refusal> {
-    sys::encode(method, block, bytes).map(|_| ())
-}
+/// The most bytes that a block holds.
+pub const LARGEST_BLOCK: usize = 8_176;
 
-/// Decodes `bytes` in place as the data of that block; undoes [`encode`]. Refusal 5 as there.
-pub fn decode(method: u8, block: u64, bytes: &mut [u8]) -> Result<(), Refusal> {
-    sys::decode(method, block, bytes).map(|_| ())
-}
+/// The most bytes that the data of a node has: 1,021 blocks in a data tree of one level.
+pub const LONGEST_DATA: usize = 1_021 * LARGEST_BLOCK;
 
 /// The checksum of the bytes: polynomial EDB88320 hex, reflected, start 0, no inversion.
+#[must_use]
 pub fn checksum(bytes: &[u8]) -> u32 {
     sys::checksum(bytes) as u32
 }
 
 /// The signature of a page or block at that offset and with that number.
+#[must_use]
 pub fn signature(offset: u64, number: u64) -> u16 {
     sys::signature(offset, number) as u16
 }
 
 /// The room that a block with so many bytes of data takes in a file: the smallest multiple of 64
 /// that holds `size` + 16.
+#[must_use]
 pub fn room(size: u32) -> u64 {
     sys::room(size)
 }

@@ -1,64 +1,120 @@
+use crate::Fault;
+use rekwonuda_sys::Answered;
 use std::error::Error;
 use std::fmt;
 
-/// The first fault that a call met: its number, its place, and for number 17 the length needed.
+/// The first fault that a call met, and its place. As text it says what is wrong and where.
+///
+/// ```
+/// use rekwonuda::Image;
+///
+/// let mut bytes = std::fs::read("../../samples/office.pst")?;
+/// bytes[100] ^= 1;
+/// let refusal = Image::new(&bytes).check_nodes().unwrap_err();
+/// assert_eq!(
+///     refusal.to_string(),
+///     "refusal 4: the first checksum of the header differs; at 0x4 (4)"
+/// );
+/// # Ok::<(), std::io::Error>(())
+/// ```
 #[derive(Clone, Copy, Debug, PartialEq, Eq, Hash)]
 pub struct Refusal {
-    /// Which fault, 1 to 20.
-    pub number: u64,
+    /// Which fault.
+    pub fault: Fault,
     /// Where: an offset in the image, or 0.
     pub place: u64,
-    /// For number 17 the length needed, otherwise 0.
+    /// For [`Fault::ShortBuffer`] the length needed, otherwise 0.
     pub more: u64,
 }
 
+/// The answer, or the refusal that it carries.
+pub(crate) fn answered<T: Answered>(answer: T) -> Result<T, Refusal> {
+    match answer.refusal() {
+        [0, _, _] => Ok(answer),
+        [number, place, more] => Err(Refusal {
+            fault: Fault::from(number),
+            place,
+            more,
+        }),
+    }
+}
+
 impl Refusal {
+    /// The number of the fault.
+    #[must_use]
+    pub const fn number(&self) -> u64 {
+        self.fault.number()
+    }
+
     /// What is wrong, in words.
+    #[must_use]
     pub fn meaning(&self) -> &'static str {
-        match self.number {
-            1..=5 => self.meaning_in_header(),
-            6 => "a reference names a place where no page can stand",
-            7 => "what stands there is not a page of this tree",
-            8 => "the number or signature of a page is wrong: another page stands there",
-            9 => "the checksum of a page differs: its bytes are not those that were written",
-            10 => "the counts or the level of a page are wrong",
-            11 => "the keys of a page do not ascend, or lie outside the page's range",
-            12 => "a block that is referred to is not in the block tree",
-            13 => "a block is listed with an offset or size that no block can have",
-            14 => "the trailer of a block is wrong: something else stands there",
-            15 => "the checksum of a block differs: its bytes are not those that were written",
-            16 => "the shape of a data tree is wrong",
-            17 => "the buffer is shorter than the data",
-            18 => "the shape of a heap is wrong",
-            19 => "a number names no item of the heap",
-            20 => "the shape of a property tree is wrong",
-            _ => "a fault without a name",
+        match self.fault {
+            Fault::PageOffset => "a reference names a place where no page can stand",
+            Fault::PageKind => "what stands there is not a page of this tree",
+            Fault::PageNumber => {
+                "the number or signature of a page is wrong: another page stands there"
+            }
+            Fault::PageChecksum => {
+                "the checksum of a page differs: its bytes are not those that were written"
+            }
+            Fault::PageCounts => "the counts or the level of a page are wrong",
+            Fault::PageKeys => "the keys of a page do not ascend, or lie outside the page's range",
+            Fault::BlockUnlisted => "a block that is referred to is not in the block tree",
+            Fault::BlockOffset => "a block is listed with an offset or size that no block can have",
+            Fault::BlockTrailer => "the trailer of a block is wrong: something else stands there",
+            Fault::BlockChecksum => {
+                "the checksum of a block differs: its bytes are not those that were written"
+            }
+            Fault::DataTree => "the shape of a data tree is wrong",
+            Fault::ShortBuffer => "the buffer is shorter than the data",
+            Fault::HeapShape => "the shape of a heap is wrong",
+            Fault::HeapItem => "a number names no item of the heap",
+            Fault::PropertyTree => "the shape of a property tree is wrong",
+            _ => self.meaning_in_header(),
         }
     }
 
     fn meaning_in_header(&self) -> &'static str {
-        match (self.number, self.place) {
-            (1, _) => "the image is under 564 or over 1,073,741,824 bytes long",
-            (2, 0) => "the file does not begin with the mark of a .pst file",
-            (2, _) => "the second mark of a .pst file is not there",
-            (3, _) => "the version is not 23, that of the 64-bit edition",
-            (4, 4) => "the first checksum of the header differs",
-            (4, _) => "the second checksum of the header differs",
-            (5, 512) => "the header's sentinel byte is wrong",
-            (5, 513) => "the header names an encoding method that there is not",
-            _ => "the encoding method is over 2",
+        match (self.fault, self.place) {
+            (Fault::ImageLength, _) => "the image is under 564 or over 1,073,741,824 bytes long",
+            (Fault::Magic, 0) => "the file does not begin with the mark of a .pst file",
+            (Fault::Magic, _) => "the second mark of a .pst file is not there",
+            (Fault::Version, _) => "the version is not 23, that of the 64-bit edition",
+            (Fault::HeaderChecksum, 4) => "the first checksum of the header differs",
+            (Fault::HeaderChecksum, _) => "the second checksum of the header differs",
+            (Fault::Encoding, 512) => "the header's sentinel byte is wrong",
+            (Fault::Encoding, 513) => "the header names an encoding method that there is not",
+            (Fault::Encoding, _) => "the encoding method is over 2",
+            _ => "a fault without a name",
+        }
+    }
+
+    /// Whether the fault has a place in the image.
+    fn has_place(&self) -> bool {
+        match self.fault {
+            Fault::ImageLength
+            | Fault::BlockUnlisted
+            | Fault::ShortBuffer
+            | Fault::HeapShape
+            | Fault::HeapItem
+            | Fault::PropertyTree => false,
+            Fault::Encoding => self.place != 0,
+            _ => true,
         }
     }
 }
 
 impl fmt::Display for Refusal {
     fn fmt(&self, out: &mut fmt::Formatter<'_>) -> fmt::Result {
-        write!(out, "refusal {}: {}", self.number, self.meaning())?;
-        match (self.number, self.place) {
-            (17, _) => write!(out, "; {} bytes are needed", self.more),
-            (1 | 12 | 18..=20, _) | (5, 0) => Ok(()),
-            (_, place) => write!(out, "; at {place:#x} ({place})"),
+        write!(out, "refusal {}: {}", self.number(), self.meaning())?;
+        if self.fault == Fault::ShortBuffer {
+            write!(out, "; {} bytes are needed", self.more)?;
         }
+        if self.has_place() {
+            write!(out, "; at {place:#x} ({place})", place = self.place)?;
+        }
+        Ok(())
     }
 }
 

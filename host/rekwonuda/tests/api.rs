@@ -5,48 +5,55 @@ mod images;
 use images::{sample, sound};
 use model::build::seal::seal_page;
 use model::build::{build, Built, Plan};
+use model::damage::{spoil, BLOCK};
 use model::page::Tree;
-use rekwonuda::{checksum, decode, encode, room, signature, Heap, Image, Refusal, Value};
+use model::random::Random;
+use rekwonuda::{
+    checksum, room, signature, BlockId, Fault, Heap, Image, ItemId, Method, NodeId, Refusal, Value,
+};
 
 #[test]
 fn the_sample_is_answered_as_known() {
     let bytes = std::fs::read(sample()).unwrap();
-    let image = Image(&bytes);
+    let image = Image::new(&bytes);
     let header = image.header().unwrap();
     assert_eq!(
         (header.method, header.nodes.number, header.nodes.offset),
-        (0, 131, 27136)
+        (Method::None, 131, 27136)
     );
     assert_eq!((header.blocks.number, header.blocks.offset), (138, 24576));
     let refusal = image.check_nodes().unwrap_err();
     assert_eq!(
         refusal,
         Refusal {
-            number: 7,
+            fault: Fault::PageKind,
             place: 26624,
             more: 0
         }
     );
     assert_eq!(image.check_blocks().unwrap_err().place, 21504);
-    let node = image.find_node(0x122).unwrap();
-    assert_eq!((node.pages, node.entry.unwrap().data), (2, 76));
-    let absent = image.find_node(0x20).unwrap();
+    let node = image.find_node(NodeId(0x122)).unwrap();
+    assert_eq!(
+        (node.pages, node.entry.unwrap().data),
+        (2, Some(BlockId(76)))
+    );
+    let absent = image.find_node(NodeId(0x20)).unwrap();
     assert_eq!((absent.pages, absent.entry), (1, None));
-    let block = image.find_block(0x40).unwrap().entry.unwrap();
+    let block = image.find_block(BlockId(0x40)).unwrap().entry.unwrap();
     assert_eq!((block.offset, block.size, block.references), (29248, 38, 2));
-    assert_eq!(image.test_block(4).unwrap_err().number, 14);
-    assert_eq!(image.node_data(0x1E1), Ok(Some(Vec::new())));
-    assert_eq!(image.node_data(0x20), Ok(None));
+    assert_eq!(image.test_block(BlockId(4)).unwrap_err().number(), 14);
+    assert_eq!(image.node_data(NodeId(0x1E1)), Ok(Some(Vec::new())));
+    assert_eq!(image.node_data(NodeId(0x20)), Ok(None));
 }
 
 #[test]
 fn lists_are_what_was_built() {
     let built = sound();
-    let image = Image(&built.image);
-    let nodes: Vec<u64> = image.nodes().map(|node| node.unwrap().node).collect();
-    let placed: Vec<u64> = built.nodes.iter().map(|node| node.node.into()).collect();
+    let image = Image::new(&built.image);
+    let nodes: Vec<u32> = image.nodes().map(|node| node.unwrap().id.0).collect();
+    let placed: Vec<u32> = built.nodes.iter().map(|node| node.node).collect();
     assert_eq!(nodes, placed);
-    let blocks: Vec<u64> = image.blocks().map(|block| block.unwrap().block).collect();
+    let blocks: Vec<u64> = image.blocks().map(|block| block.unwrap().id.0).collect();
     let mut placed: Vec<u64> = built.blocks.iter().map(|block| block.number).collect();
     placed.sort_unstable();
     assert_eq!(blocks, placed);
@@ -55,11 +62,16 @@ fn lists_are_what_was_built() {
 #[test]
 fn a_refused_list_ends_with_its_refusal() {
     let bytes = std::fs::read(sample()).unwrap();
-    let listed: Vec<_> = Image(&bytes).blocks().collect();
+    let listed: Vec<_> = Image::new(&bytes).blocks().collect();
     let (last, before) = listed.split_last().unwrap();
-    assert_eq!(last.unwrap_err().number, 7);
+    assert_eq!(last.unwrap_err().fault, Fault::PageKind);
     assert!(before.iter().all(Result::is_ok));
-    assert_eq!(Image(b"").nodes().count(), 1);
+    let mut nodes = Image::new(b"").nodes();
+    assert!(nodes.next().unwrap().is_err());
+    assert!(nodes.next().is_none() && nodes.next().is_none());
+    let mut properties = Heap::new(b"").properties();
+    assert!(properties.next().unwrap().is_err());
+    assert!(properties.next().is_none() && properties.next().is_none());
 }
 
 /// An image with one page a tree, in which the last key of the tree is the highest that there is.
@@ -87,61 +99,123 @@ fn with_highest_key(tree: Tree, entry: usize, key: &[u8]) -> Built {
 #[test]
 fn a_list_ends_behind_the_highest_key() {
     let built = with_highest_key(Tree::Nodes, 32, &[0xFF; 4]);
-    let nodes: Vec<_> = Image(&built.image).nodes().map(Result::unwrap).collect();
-    assert_eq!((nodes.len(), nodes[2].node), (3, 0xFFFF_FFFF));
+    let nodes: Vec<_> = Image::new(&built.image)
+        .nodes()
+        .map(Result::unwrap)
+        .collect();
+    assert_eq!((nodes.len(), nodes[2].id), (3, NodeId(u32::MAX)));
     let built = with_highest_key(Tree::Blocks, 24, &[0xFF; 8]);
-    let blocks: Vec<_> = Image(&built.image).blocks().map(Result::unwrap).collect();
-    assert_eq!((blocks.len(), blocks[2].block), (3, u64::MAX));
+    let blocks: Vec<_> = Image::new(&built.image)
+        .blocks()
+        .map(Result::unwrap)
+        .collect();
+    assert_eq!((blocks.len(), blocks[2].id), (3, BlockId(u64::MAX)));
 }
 
 #[test]
 fn blocks_and_nodes_are_read_decoded() {
     let built = sound();
-    let image = Image(&built.image);
+    let image = Image::new(&built.image);
     for block in &built.blocks {
         let mut out = [0xAA; 8_177];
-        let length = image.read_block(block.number, &mut out).unwrap();
+        let length = image.read_block(BlockId(block.number), &mut out).unwrap();
         assert_eq!(out[..length], block.data);
         assert!(out[length..].iter().all(|byte| *byte == 0xAA));
         let refusal = image
-            .read_block(block.number, &mut out[..length - 1])
+            .read_block(BlockId(block.number), &mut out[..length - 1])
             .unwrap_err();
-        assert_eq!((refusal.number, refusal.more), (17, length as u64));
+        assert_eq!((refusal.number(), refusal.more), (17, length as u64));
+        assert_eq!(image.block_data(BlockId(block.number)).unwrap(), block.data);
     }
     for node in &built.nodes {
-        assert_eq!(
-            image.node_data(node.node.into()).unwrap().unwrap(),
-            built.data(node)
-        );
+        let data = built.data(node);
+        let id = NodeId(node.node);
+        assert_eq!(image.test_node(id).unwrap(), Some(data.len()));
+        assert_eq!(image.node_data(id).unwrap(), Some(data));
     }
+}
+
+#[test]
+fn data_blocks_are_those_that_were_built() {
+    let built = sound();
+    let image = Image::new(&built.image);
+    for node in image.nodes().map(Result::unwrap) {
+        let placed = built.nodes.iter().find(|placed| placed.node == node.id.0);
+        let parts = built.parts(placed.unwrap());
+        let listed = node
+            .data
+            .map_or(Ok(Vec::new()), |data| image.data_blocks(data));
+        let numbers: Vec<u64> = listed.unwrap().into_iter().map(u64::from).collect();
+        assert_eq!(numbers, parts);
+        assert_eq!(node.has_data_tree(), parts.len() > 1);
+    }
+}
+
+/// How many nodes have a data block that is no list though it is internal. Such a node is refused as
+/// its list is; of one that is accepted, the listed blocks have the data's length.
+fn lists_refused(image: Image<'_>) -> usize {
+    let mut refused = 0;
+    for node in image.nodes().map_while(Result::ok) {
+        let tested = image.test_node(node.id);
+        match node.data.map(|data| image.data_blocks(data)) {
+            None => assert_eq!(tested, Ok(Some(0))),
+            Some(Err(refusal)) => {
+                assert_eq!(tested, Err(refusal));
+                refused += usize::from(refusal.fault == Fault::DataTree);
+            }
+            Some(Ok(blocks)) => {
+                let sizes = blocks.iter().map(|block| image.test_block(*block));
+                if let Ok(length) = tested {
+                    assert_eq!(sizes.sum::<Result<usize, Refusal>>().ok(), length);
+                }
+            }
+        }
+    }
+    refused
+}
+
+#[test]
+fn a_data_tree_that_is_no_list_is_refused_as_its_node_is() {
+    let built = sound();
+    let mut random = Random::new(1);
+    assert_eq!(lists_refused(Image::new(&built.image)), 0);
+    let mut refused = 0;
+    for damage in BLOCK.iter().cycle().take(40 * BLOCK.len()) {
+        let image = spoil(&built, *damage, true, &mut random).image;
+        refused += lists_refused(Image::new(&image));
+    }
+    assert!(refused > 40, "{refused}");
 }
 
 #[test]
 fn heaps_hand_out_their_items_and_properties() {
     let built = sound();
     for heap in built.heaps.values() {
-        let block = Heap(&heap.block);
-        block.test_heap().unwrap();
+        let block = Heap::new(&heap.block);
+        block.test().unwrap();
         for (item, number) in heap.items.iter().zip((0x20..).step_by(0x20)) {
-            block.test_item(number).unwrap();
-            assert_eq!(block.item(number).unwrap(), item);
+            block.test_item(ItemId(number)).unwrap();
+            assert_eq!(block.item(ItemId(number)).unwrap(), item);
         }
-        assert_eq!(block.item(0).unwrap_err().number, 19);
-        for (id, property) in &heap.properties {
-            let found = block.find_property(*id).unwrap().unwrap();
-            assert_eq!(found.type_code, property.kind);
+        assert_eq!(block.item(ItemId(0)).unwrap_err().fault, Fault::HeapItem);
+        let listed: Vec<_> = block.properties().map(Result::unwrap).collect();
+        assert_eq!(listed.len(), heap.properties.len());
+        for ((id, property), found) in heap.properties.iter().zip(listed) {
+            assert_eq!(block.find_property(*id), Ok(Some(found)));
+            assert_eq!((found.id, found.type_code), (*id, property.kind));
             assert_eq!(found.value, value(property.value));
         }
+        assert_eq!(block.client_kind(), Ok(Heap::PROPERTIES));
     }
-    assert_eq!(Heap(b"").test_heap().unwrap_err().number, 18);
+    assert_eq!(Heap::new(b"").test().unwrap_err().fault, Fault::HeapShape);
 }
 
 fn value(value: model::Value) -> Value {
     match value {
         model::Value::Number(number) => Value::Number(number),
         model::Value::Empty => Value::Empty,
-        model::Value::Item(item) => Value::Item(item),
-        model::Value::Subnode(subnode) => Value::Subnode(subnode),
+        model::Value::Item(item) => Value::Item(ItemId(item)),
+        model::Value::Subnode(subnode) => Value::Subnode(NodeId(subnode)),
     }
 }
 
@@ -149,28 +223,20 @@ fn value(value: model::Value) -> Value {
 fn bare_calls_answer_as_the_rules_say() {
     assert_eq!(checksum(&[]), 0);
     assert_eq!(checksum(&[0x80]), 0xEDB8_8320);
-    assert_eq!(signature(0x908A00, 0x1518), 0x9F88);
+    assert_eq!(signature(0x0090_8A00, 0x1518), 0x9F88);
     assert_eq!(room(4_092), 4_160);
     let mut bytes: Vec<u8> = (0..16).collect();
-    encode(2, 0x1518, &mut bytes).unwrap();
+    Method::Cyclic.encode(BlockId(0x1518), &mut bytes);
     assert_eq!(bytes[..4], [0x37, 0x98, 0xAE, 0x32]);
-    decode(2, 0x1518, &mut bytes).unwrap();
+    Method::Cyclic.decode(BlockId(0x1518), &mut bytes);
     assert_eq!(bytes, (0..16).collect::<Vec<u8>>());
-    assert_eq!(
-        encode(3, 0, &mut bytes).unwrap_err().to_string(),
-        "refusal 5: the encoding method is over 2"
-    );
 }
 
 #[test]
 fn refusals_say_what_is_wrong_and_where() {
-    let said = |number, place, more| {
-        Refusal {
-            number,
-            place,
-            more,
-        }
-        .to_string()
+    let said = |number: u64, place, more| {
+        let fault = Fault::from(number);
+        Refusal { fault, place, more }.to_string()
     };
     assert_eq!(said(9, 0x6A00, 0), "refusal 9: the checksum of a page differs: its bytes are not those that were written; at 0x6a00 (27136)");
     assert_eq!(
@@ -181,7 +247,49 @@ fn refusals_say_what_is_wrong_and_where() {
         said(2, 0, 0),
         "refusal 2: the file does not begin with the mark of a .pst file; at 0x0 (0)"
     );
-    for number in 1..=20 {
-        assert!(!said(number, 0, 0).contains("without a name"));
+    assert_eq!(said(5, 0, 0), "refusal 5: the encoding method is over 2");
+    assert_eq!(
+        said(99, 1, 0),
+        "refusal 99: a fault without a name; at 0x1 (1)"
+    );
+}
+
+#[test]
+fn faults_are_those_of_the_proved_library() {
+    let source = include_str!("../../../crates/refusal/src/lib.rt");
+    let (_, behind) = source.split_once("pub enum Fault {").unwrap();
+    let (names, _) = behind.split_once('}').unwrap();
+    let names: Vec<&str> = names.split(',').map(str::trim).collect();
+    let (last, names) = names.split_last().unwrap();
+    assert_eq!((*last, names.len()), ("", 20));
+    for (name, number) in names.iter().zip(1..) {
+        let fault = Fault::from(number);
+        let refusal = Refusal {
+            fault,
+            place: 0,
+            more: 0,
+        };
+        assert_eq!(format!("{fault:?}"), *name);
+        assert_eq!(fault.number(), number);
+        assert_ne!(refusal.meaning(), "a fault without a name");
+    }
+    for number in [0, 21, u64::MAX] {
+        assert_eq!(Fault::from(number).number(), number);
+    }
+}
+
+#[test]
+fn numbers_are_shown_as_a_reader_writes_them() {
+    assert_eq!(
+        format!("{:>8}|{:#010x}", NodeId(0x122), NodeId(0x122)),
+        "   0x122|0x00000122"
+    );
+    assert_eq!(BlockId::from(0x1A).to_string(), "0x1a");
+    assert_eq!(format!("{:<8}|", Method::Cyclic), "cyclic  |");
+    for (number, method) in [Method::None, Method::Permute, Method::Cyclic]
+        .iter()
+        .enumerate()
+    {
+        assert_eq!(usize::from(method.number()), number);
     }
 }

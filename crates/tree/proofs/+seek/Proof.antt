@@ -7,7 +7,7 @@ use Rattle.tree.proofs.Walk.{next-level}
 use Rattle.tree.proofs.Children.{more}
 use Rattle.tree.proofs.Searched.{sorted, filled}
 use Rattle.tree.specs.Tree.{pageTree}
-use Rattle.search.proofs.Few.{few}
+use Rattle.search.proofs.Few.{absent-few}
 use Rattle.tree.proofs.Steps.{way-refused, way-leaf}
 use Rattle.keys.specs.declared.Sought.the-variants.{AtLeast}
 use Rattle.tree.proofs.Seeks.{absent-pages, present, seek-none, seek-first, seek-last, seek-second}
@@ -100,7 +100,7 @@ pub +seek-spec : {M : Type 1} → statement M
     (λ c κs.
     let a = c .before .before .before .before .before .before .before .before .before .before .before .before .before .before .before .before .before .before .args in
     let pre = c .before .before .before .before .before .before .before .before .before .before .before .before .before .before .before .before .before .before .pre in
-    let read = absent-pages (a .l) (a .pages) _ _ (c .before .before .before .before .before .before .before .seek .ensures) _ (c .before .before .before .before .before .found .given .1) (a .level - 1) (few (pageTree (a .l) (a .image .now)) (sorted (a .l) (a .image .now)) (filled (a .l) (a .image .now)) (a .key) (a .level - 1) (c .before .before .before .before .before .before .before .before .before .first .given .0 .0)) in (
+    let read = absent-pages (a .l) (a .pages) _ _ (c .before .before .before .before .before .before .before .seek .ensures) _ (c .before .before .before .before .before .found .given .1) (a .level - 1) (absent-few (pageTree (a .l) (a .image .now)) (sorted (a .l) (a .image .now)) (filled (a .l) (a .image .now)) (a .key) (a .level - 1) (c .before .before .before .before .before .before .before .before .before .first .given .0 .0)) in (
       omega (arith, pre .0),
       (
         pre .1 .0,

@@ -75,7 +75,7 @@ pub fn office() -> Built {
         tidy: true,
         ..Plan::default()
     };
-    let mut builder = Builder::new(0x0FF1CE, &plan);
+    let mut builder = Builder::new(0x000F_F1CE, &plan);
     builder.place_context(STORE, 0, store());
     builder.place_context(NAMES, 0, names());
     for (node, parent, name) in FOLDERS {

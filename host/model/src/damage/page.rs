@@ -18,10 +18,10 @@ impl<'a> Spoiler<'a> {
             Damage::PageNumber => self.flip(offset + 504, offset + 512),
             Damage::PageByte => self.flip(offset, offset + 496),
             Damage::PageLevel | Damage::EntrySize | Damage::PageRoom | Damage::PageCount => {
-                self.page_counts(damage, offset)
+                self.page_counts(damage, offset);
             }
             Damage::ChildNumber | Damage::ChildOffset | Damage::ChildGraft => {
-                self.child(damage, page)
+                self.child(damage, page);
             }
             Damage::NodeData => self.node_data(page),
             Damage::PageSignature | Damage::PageSum => {}

@@ -1,0 +1,119 @@
+-- Demand 1. Assumes nothing.
+use Prim.Native.Nat.{ℕ}
+use mathlib.Core.Path.{_≡_, refl, sym, _∙_}
+use mathlib.Core.List.{List, [], _∷_}
+use lib.ListN.{length}
+use Rattle.refusal.specs.declared.Verdict.{Verdict}
+use Rattle.refusal.specs.declared.Verdict.the-variants.{Accepted, Refused}
+use Rattle.refusal.specs.Order.{_then_, inOrder, demand, after}
+use Rattle.keys.specs.declared.Sought.{Sought}
+use Rattle.keys.specs.declared.Sought.the-variants.{Equal, AtLeast}
+use Rattle.coding.specs.Coding.{methodFits}
+use Rattle.header.specs.Header.{headerRules, headerFits, headerOf}
+use Rattle.page.specs.Layout.{nbt, bbt}
+use Rattle.tree.specs.Tree.{treeRules, treeFits}
+use Rattle.tree.specs.Lookup.{searchRules}
+use Rattle.tree.specs.Answers.{nodeOf, blockOf, nextNodeOf, nextBlockOf}
+use Rattle.tree.proofs.InOrder.{search-tried}
+use Rattle.block.specs.Tried.{testRules, readRules}
+use Rattle.block.proofs.TriedLaws.{size-tried, read-tried}
+use Rattle.node.specs.Tried.{dataRules}
+use Rattle.node.proofs.TriedLaws.{data-tried}
+use Rattle.heap.specs.Shape.{shapeRules, heapTest}
+use Rattle.heap.specs.Items.{itemRules, itemTest, itemSpan}
+use Rattle.property.specs.Lookup.{propertyRules}
+use Rattle.property.proofs.TriedLaws.{property-refused-exactly}
+use Rattle.pst.specs.Meaning.{verdictMeans, headerMeans, nodeMeans, blockMeans, sizedMeans, dataMeans, spanMeans, propertyMeans}
+use Rattle.pst.specs.Outcomes.{headerOutcome, nodesOutcome, blocksOutcome, nodeOutcome, blockOutcome, nextNodeOutcome, nextBlockOutcome, testOutcome, readOutcome, dataOutcome, codeOutcome, heapOutcome, testItemOutcome, spanOutcome, propertyOutcome}
+use Rattle.pst.specs.Demands.{Told, methodRules, FirstDemand}
+use Rattle.pst.proofs.Refusals.{verdict-told, header-verdict, header-told, node-told, block-told, sized-told, data-told, span-told, property-told}
+use Rattle.pst.proofs.Untouched.{read-untouched, data-untouched, encode-untouched, decode-untouched}
+
+header-call : (image : List ℕ) → Told headerMeans (headerRules image) (headerOutcome image)
+unfolding headerOutcome headerOf headerFits
+header-call image = header-told _ (headerRules image) (header-verdict _ _)
+
+nodes-call : (image : List ℕ) → Told verdictMeans (treeRules nbt image) (nodesOutcome image)
+unfolding nodesOutcome treeFits
+nodes-call image = verdict-told _ (treeRules nbt image) refl
+
+blocks-call : (image : List ℕ) → Told verdictMeans (treeRules bbt image) (blocksOutcome image)
+unfolding blocksOutcome treeFits
+blocks-call image = verdict-told _ (treeRules bbt image) refl
+
+find-node-call : (image : List ℕ) (node : ℕ) → Told nodeMeans (searchRules Equal nbt image node) (nodeOutcome image node)
+unfolding nodeOutcome nodeOf
+find-node-call image node = node-told nbt _ (searchRules Equal nbt image node) (search-tried Equal nbt image node)
+
+find-block-call : (image : List ℕ) (block : ℕ) → Told blockMeans (searchRules Equal bbt image block) (blockOutcome image block)
+unfolding blockOutcome blockOf
+find-block-call image block = block-told bbt _ (searchRules Equal bbt image block) (search-tried Equal bbt image block)
+
+next-node-call : (image : List ℕ) (from : ℕ) → Told nodeMeans (searchRules AtLeast nbt image from) (nextNodeOutcome image from)
+unfolding nextNodeOutcome nextNodeOf
+next-node-call image from = node-told nbt _ (searchRules AtLeast nbt image from) (search-tried AtLeast nbt image from)
+
+next-block-call : (image : List ℕ) (from : ℕ) → Told blockMeans (searchRules AtLeast bbt image from) (nextBlockOutcome image from)
+unfolding nextBlockOutcome nextBlockOf
+next-block-call image from = block-told bbt _ (searchRules AtLeast bbt image from) (search-tried AtLeast bbt image from)
+
+test-block-call : (image : List ℕ) (block : ℕ) → Told sizedMeans (testRules image block) (testOutcome image block)
+unfolding testOutcome
+test-block-call image block = sized-told _ (testRules image block) (size-tried image block)
+
+read-block-call : (image : List ℕ) (block : ℕ) (out : List ℕ) → Told sizedMeans (readRules image block (length out)) (readOutcome image block out)
+unfolding readOutcome
+read-block-call image block out = sized-told _ (readRules image block (length out)) (read-tried image block (length out))
+
+read-node-call : (image : List ℕ) (node : ℕ) (out : List ℕ) → Told dataMeans (dataRules image node (length out)) (dataOutcome image node out)
+unfolding dataOutcome
+read-node-call image node out = data-told _ (dataRules image node (length out)) (data-tried image node (length out))
+
+then-accepted : (v : Verdict) → (v then Accepted) ≡ v
+unfolding after
+then-accepted Accepted = refl
+then-accepted (Refused r) = refl
+
+code-call : (method : ℕ) → Told verdictMeans (methodRules method) (codeOutcome method)
+unfolding codeOutcome methodFits inOrder
+code-call method = verdict-told _ (methodRules method) (then-accepted _)
+
+heap-call : (block : List ℕ) → Told verdictMeans (shapeRules block) (heapOutcome block)
+unfolding heapOutcome heapTest
+heap-call block = verdict-told _ (shapeRules block) refl
+
+test-item-call : (block : List ℕ) (item : ℕ) → Told verdictMeans (itemRules block item) (testItemOutcome block item)
+unfolding testItemOutcome itemTest
+test-item-call block item = verdict-told _ (itemRules block item) refl
+
+find-item-call : (block : List ℕ) (item : ℕ) → Told spanMeans (itemRules block item) (spanOutcome block item)
+unfolding spanOutcome itemSpan itemTest
+find-item-call block item = span-told _ _ _ (itemRules block item) refl
+
+property-call : (block : List ℕ) (id : ℕ) → Told propertyMeans (propertyRules block id) (propertyOutcome block id)
+unfolding propertyOutcome
+property-call block id = property-told _ (propertyRules block id) (property-refused-exactly block id)
+
+pub first-demand : FirstDemand
+first-demand =
+    record {
+      header = header-call;
+      check-nodes = nodes-call;
+      check-blocks = blocks-call;
+      find-node = find-node-call;
+      find-block = find-block-call;
+      next-node = next-node-call;
+      next-block = next-block-call;
+      test-block = test-block-call;
+      read-block = read-block-call;
+      read-node = read-node-call;
+      code = code-call;
+      test-heap = heap-call;
+      test-item = test-item-call;
+      find-item = find-item-call;
+      find-property = property-call;
+      read-block-leaves = read-untouched;
+      read-node-leaves = data-untouched;
+      encode-leaves = encode-untouched;
+      decode-leaves = decode-untouched;
+    }

@@ -1,0 +1,191 @@
+-- The user's three demands, of the outcomes of the public calls alone. Assumes nothing: these are definitions.
+--
+-- The contract of a call says: what the answer means is the outcome that pst/specs/Outcomes names, and each buffer at exit is the one named there. What holds of every
+-- outcome so holds of every call. Proved in pst/proofs/Demands.
+use Prim.Native.Nat.{ℕ, _+_, _*_, _≤_}
+use mathlib.Core.Path.{_≡_}
+use mathlib.Core.Bool.{true, false}
+use mathlib.Core.Logic.{_↔_}
+use mathlib.Core.Option.{Option}
+use mathlib.Core.List.{List, [], _∷_, _++_, map}
+use lib.Dec.{leb}
+use lib.ListN.{length}
+use Rattle.le.specs.Bytes.{Bytes}
+use Rattle.refusal.specs.declared.Refusal.{Refusal}
+use Rattle.refusal.specs.declared.Fault.the-variants.{Encoding}
+use Rattle.refusal.specs.Order.{_at_, Rule, rule, AllHold, FirstFault}
+use Rattle.keys.specs.declared.Sought.the-variants.{Equal, AtLeast}
+use Rattle.keys.specs.Plain.{Ascending, Missing, Distinct}
+use Rattle.keys.specs.Search.{withKey, fromKey}
+use Rattle.search.specs.Answer.{Answer, found, answer}
+use Rattle.search.specs.Answer as search
+use Rattle.coding.specs.Coding.{cyclic, word}
+use Rattle.coding.specs.Table.{R, I}
+use Rattle.header.specs.declared.HeaderAnswer.the-variants.{Says}
+use Rattle.header.specs.Header.{headerRules, says}
+use Rattle.header.specs.Sound.{HeaderSound}
+use Rattle.page.specs.declared.Layout.{Layout}
+use Rattle.page.specs.Layout.{nbt, bbt, compared}
+use Rattle.page.specs.Page.{keyIn}
+use Rattle.tree.specs.declared.Listed.{Listed}
+use Rattle.tree.specs.declared.FoundBlock.the-variants as block
+use Rattle.tree.specs.Tree.{rootLevel, treeRules, scan, allRoutes}
+use Rattle.tree.specs.Lookup.{path, searchRules, pagesRead}
+use Rattle.tree.specs.Answers.{shown, asNode, asBlock}
+use Rattle.tree.specs.Sound.{TreeSound}
+use Rattle.tree.specs.Demand3.{AgreeOnPath, AgreeOnRead}
+use Rattle.tree.specs.Listing.{TreeLists}
+use Rattle.block.specs.Block.{trailer64, blockBytes, fronted}
+use Rattle.block.specs.Sound.{BlockSound}
+use Rattle.block.specs.Tried.{testRules, readRules}
+use Rattle.node.specs.Named.{Named}
+use Rattle.node.specs.Tried.{dataRules}
+use Rattle.heap.specs.Shape.{Heap, shapeRules}
+use Rattle.heap.specs.Items.{Numbered, itemRules, itemStart, itemLength, itemPart}
+use Rattle.heaptree.specs.declared.Branch.{Branch}
+use Rattle.heaptree.specs.Branches.{branchRules}
+use Rattle.heaptree.specs.Sound.{BranchSound}
+use Rattle.property.specs.Context.{properties, Context, contextRules}
+use Rattle.property.specs.Lookup.{propertyFrom, propertyRules}
+use Rattle.property.specs.Scan.{PropertiesSound, idOf, propertyRecords}
+use Rattle.pst.specs.Meaning.{Meaning, answered, absent, refuses, refusalMeans, verdictMeans, headerMeans, nodeMeans, blockMeans, sizedMeans, dataMeans, spanMeans, propertyMeans}
+use Rattle.pst.specs.Outcomes.{headerOutcome, nodesOutcome, blocksOutcome, nodeOutcome, blockOutcome, nextNodeOutcome, nextBlockOutcome, testOutcome, readOutcome, readBuffer, dataOutcome, dataBuffer, codeOutcome, encodeBuffer, decodeBuffer, heapOutcome, testItemOutcome, itemOutcome, spanOutcome, propertyOutcome}
+
+-- Demand 1 of one call: its answers, by what they mean; the rules that it tries, in their order; its outcome
+pub record Told {A : Type 0} (means : A → Meaning) (rules : List Rule) (outcome : Meaning) : Type 0 where
+  -- two answers that mean the outcome are the same
+  pub single : (one other : A) → means one ≡ outcome → means other ≡ outcome → one ≡ other
+  -- it is a refusal exactly when that is the first fault: a rule that is broken, while each rule before it holds
+  pub first-fault : (r : Refusal) → (outcome ≡ refusalMeans r) ↔ FirstFault rules r
+
+-- a refused call leaves every byte of its buffer
+abbrev pub Untouched : Meaning → List ℕ → List ℕ → Type 0
+Untouched outcome before after = refuses outcome ≡ true → after ≡ before
+
+-- "a method over 2"
+abbrev pub methodRules : ℕ → List Rule
+methodRules method = rule (leb method 2) (Encoding at 0) ∷ []
+
+pub record FirstDemand : Type 0 where
+  pub header : (image : List ℕ) → Told headerMeans (headerRules image) (headerOutcome image)
+  pub check-nodes : (image : List ℕ) → Told verdictMeans (treeRules nbt image) (nodesOutcome image)
+  pub check-blocks : (image : List ℕ) → Told verdictMeans (treeRules bbt image) (blocksOutcome image)
+  pub find-node : (image : List ℕ) (node : ℕ) → Told nodeMeans (searchRules Equal nbt image node) (nodeOutcome image node)
+  pub find-block : (image : List ℕ) (block : ℕ) → Told blockMeans (searchRules Equal bbt image block) (blockOutcome image block)
+  pub next-node : (image : List ℕ) (from : ℕ) → Told nodeMeans (searchRules AtLeast nbt image from) (nextNodeOutcome image from)
+  pub next-block : (image : List ℕ) (from : ℕ) → Told blockMeans (searchRules AtLeast bbt image from) (nextBlockOutcome image from)
+  pub test-block : (image : List ℕ) (block : ℕ) → Told sizedMeans (testRules image block) (testOutcome image block)
+  pub read-block : (image : List ℕ) (block : ℕ) (out : List ℕ) → Told sizedMeans (readRules image block (length out)) (readOutcome image block out)
+  pub read-node : (image : List ℕ) (node : ℕ) (out : List ℕ) → Told dataMeans (dataRules image node (length out)) (dataOutcome image node out)
+  pub code : (method : ℕ) → Told verdictMeans (methodRules method) (codeOutcome method)
+  pub test-heap : (block : List ℕ) → Told verdictMeans (shapeRules block) (heapOutcome block)
+  pub test-item : (block : List ℕ) (item : ℕ) → Told verdictMeans (itemRules block item) (testItemOutcome block item)
+  pub find-item : (block : List ℕ) (item : ℕ) → Told spanMeans (itemRules block item) (spanOutcome block item)
+  pub find-property : (block : List ℕ) (id : ℕ) → Told propertyMeans (propertyRules block id) (propertyOutcome block id)
+  pub read-block-leaves : (image : List ℕ) (block : ℕ) (out : List ℕ) → Untouched (readOutcome image block out) out (readBuffer image block out)
+  pub read-node-leaves : (image : List ℕ) (node : ℕ) (out : List ℕ) → Untouched (dataOutcome image node out) out (dataBuffer image node out)
+  pub encode-leaves : (method block : ℕ) (bytes : List ℕ) → Untouched (codeOutcome method) bytes (encodeBuffer method block bytes)
+  pub decode-leaves : (method block : ℕ) (bytes : List ℕ) → Untouched (codeOutcome method) bytes (decodeBuffer method block bytes)
+
+-- a block that the block tree lists under this number, and whose rules hold
+pub record SoundBlock (image : List ℕ) (number : ℕ) (listed : Listed) : Type 0 where
+  pub pages : ℕ
+  pub found : blockOutcome image number ≡ blockMeans (block.Found listed pages)
+  pub sound : BlockSound trailer64 image listed
+
+-- a call on a block that answers its size
+pub record BlockOfSize (image : List ℕ) (number size : ℕ) : Type 0 where
+  pub listed : Listed
+  pub sound : SoundBlock image number listed
+  pub same-size : listed .size ≡ size
+
+-- the bytes of exactly the blocks that a node names, and room for them
+pub record DataOfSize (image : List ℕ) (node space size : ℕ) : Type 0 where
+  pub bytes : List ℕ
+  pub named : Named image node bytes
+  pub long : length bytes ≡ size
+  pub fits : size ≤ space
+
+pub record SecondDemand : Type 0 where
+  -- header, pages and both trees are accepted exactly when the rules hold, and the header says what stands in it
+  pub header : (image : List ℕ) → (headerOutcome image ≡ headerMeans (Says (says image))) ↔ HeaderSound image
+  pub node-tree : (image : List ℕ) → (nodesOutcome image ≡ answered []) ↔ TreeSound nbt image
+  pub block-tree : (image : List ℕ) → (blocksOutcome image ≡ answered []) ↔ TreeSound bbt image
+  -- a block is accepted exactly when it is listed and its rules hold
+  pub block-tested : (image : List ℕ) (block size : ℕ) → (testOutcome image block ≡ answered (size ∷ [])) ↔ BlockOfSize image block size
+  -- what is read is its bytes, decoded unless it is internal, at the front of the buffer
+  pub block-read : (image : List ℕ) (block size : ℕ) (out : List ℕ) → (readOutcome image block out ≡ answered (size ∷ [])) ↔ (BlockOfSize image block size × (size ≤ length out))
+  pub block-bytes : (image : List ℕ) (block : ℕ) (out : List ℕ) (listed : Listed) → SoundBlock image block listed → listed .size ≤ length out
+      → readBuffer image block out ≡ fronted (blockBytes image listed) out
+  -- a node's data is answered exactly when it is named by the rules, with room for it; it stands at the front of the buffer; and there is a most of it
+  pub data-read : (image : List ℕ) (node size : ℕ) (out : List ℕ) → (dataOutcome image node out ≡ answered (size ∷ [])) ↔ DataOfSize image node (length out) size
+  pub data-bytes : (image : List ℕ) (node : ℕ) (out bytes : List ℕ) → Named image node bytes → length bytes ≤ length out → dataBuffer image node out ≡ fronted bytes out
+  pub data-most : (image : List ℕ) (node size : ℕ) (out : List ℕ) → dataOutcome image node out ≡ answered (size ∷ []) → size ≤ 8347696
+  -- heaps and items
+  pub heap : (block : List ℕ) → (heapOutcome block ≡ answered []) ↔ Heap block
+  pub item-tested : (block : List ℕ) (item : ℕ) → (testItemOutcome block item ≡ answered []) ↔ (Heap block × Numbered block item)
+  pub item-bytes : (block : List ℕ) (item : ℕ) → Heap block → Numbered block item → itemOutcome block item ≡ itemPart block item
+  pub item-place : (block : List ℕ) (item : ℕ) → Heap block → Numbered block item → spanOutcome block item ≡ answered (itemStart block item ∷ itemLength block item ∷ [])
+  -- a property is answered, or absent, exactly when each rule that is tried holds; what those before the tree and those of an item come to
+  pub property : (block : List ℕ) (id : ℕ) → (refuses (propertyOutcome block id) ≡ false) ↔ AllHold (propertyRules block id)
+  pub context : (block : List ℕ) → AllHold (shapeRules block ++ contextRules block) ↔ (Heap block × Context block)
+  pub branch : (block : List ℕ) (levels : ℕ) (branch : Branch) → AllHold (branchRules properties block levels branch) ↔ BranchSound properties block levels branch
+  -- and in a sound tree the answer is that of the plain scan of all leaf records
+  pub property-scanned : (block : List ℕ) (id : ℕ) → PropertiesSound block
+      → propertyOutcome block id ≡ propertyMeans (propertyFrom block (answer (withKey idOf id (propertyRecords block)) 0))
+  -- the two encodings, done and undone as published
+  pub permuted : (block : ℕ) (bytes : List ℕ) → (encodeBuffer 1 block bytes ≡ map R bytes) × (decodeBuffer 1 block bytes ≡ map I bytes)
+  pub cycled : (block : ℕ) (bytes : List ℕ) → (encodeBuffer 2 block bytes ≡ cyclic (word block) bytes) × (decodeBuffer 2 block bytes ≡ cyclic (word block) bytes)
+  pub decoded-encoded : (method block : ℕ) (bytes : List ℕ) → Bytes bytes → decodeBuffer method block (encodeBuffer method block bytes) ≡ bytes
+  pub encoded-decoded : (method block : ℕ) (bytes : List ℕ) → Bytes bytes → encodeBuffer method block (decodeBuffer method block bytes) ≡ bytes
+
+-- what the calls of each tree say of an answer
+abbrev pub nodeSays : Answer (List ℕ) → Meaning
+nodeSays a = nodeMeans (asNode (shown nbt a))
+
+abbrev pub blockSays : Answer (List ℕ) → Meaning
+blockSays a = blockMeans (asBlock (shown bbt a))
+
+-- Demand 3 of the lookups of one tree, in an image whose whole-tree check accepts
+pub record Lookups (L : Layout) (says : Answer (List ℕ) → Meaning) (find : ℕ → Meaning) (image : List ℕ) : Type 0 where
+  -- each answers as a plain scan of all leaf entries does: the entry with that key, or absent, with the length of the key's path
+  pub answers : (key : ℕ) → find key ≡ says (answer (withKey (keyIn L) (compared L key) (scan L image)) (length (path L image key)))
+  pub never-refused : (key : ℕ) → refuses (find key) ≡ false
+  -- the one entry: the keys of the leaf entries strictly ascend
+  pub ascending : Ascending (map (keyIn L) (scan L image))
+  -- absent exactly when there is none
+  pub absent-iff : (key : ℕ) → (find key ≡ absent (length (path L image key) ∷ [])) ↔ Missing (compared L key) (map (keyIn L) (scan L image))
+  -- no page offset is reached by two routes
+  pub one-route : Distinct (allRoutes L image)
+
+-- Demand 3 of the lookups of one tree, in any image at all
+pub record Paths (L : Layout) (says : Answer (List ℕ) → Meaning) (find : List ℕ → ℕ → Meaning) : Type 0 where
+  -- the page count is the length of the key's path
+  pub found-count : (image : List ℕ) (key : ℕ) (entry : List ℕ) (pages : ℕ) → find image key ≡ says (found entry pages) → pages ≡ length (path L image key)
+  pub absent-count : (image : List ℕ) (key pages : ℕ) → find image key ≡ says (search.absent pages) → pages ≡ length (path L image key)
+  -- at most the root's level plus one
+  pub short : (image : List ℕ) (key : ℕ) → length (path L image key) ≤ rootLevel L image + 1
+  -- nothing off the path changes the answer
+  pub off-path : (key : ℕ) (one other : List ℕ) → AgreeOnPath L key one other → find one key ≡ find other key
+
+pub record ThirdDemand : Type 0 where
+  pub nodes : (image : List ℕ) → nodesOutcome image ≡ answered [] → Lookups nbt nodeSays (nodeOutcome image) image
+  pub blocks : (image : List ℕ) → blocksOutcome image ≡ answered [] → Lookups bbt blockSays (blockOutcome image) image
+  pub node-paths : Paths nbt nodeSays nodeOutcome
+  pub block-paths : Paths bbt blockSays blockOutcome
+
+-- Beyond the demands: the listings of one tree. The entry or absent, with some count
+pub record FirstFrom (says : Answer (List ℕ) → Meaning) (outcome : Meaning) (entry : Option (List ℕ)) : Type 0 where
+  pub pages : ℕ
+  pub is : outcome ≡ says (answer entry pages)
+
+pub record Listings (L : Layout) (says : Answer (List ℕ) → Meaning) (check : List ℕ → Meaning) (next : List ℕ → ℕ → Meaning) : Type 0 where
+  -- where the whole-tree check accepts: the first entry of the scan from a key on, and never a refusal; going from 0 lists exactly the scan, and ends
+  pub answers : (image : List ℕ) (from : ℕ) → check image ≡ answered [] → FirstFrom says (next image from) (fromKey (keyIn L) (compared L from) (scan L image))
+  pub never-refused : (image : List ℕ) (from : ℕ) → check image ≡ answered [] → refuses (next image from) ≡ false
+  pub lists : (image : List ℕ) → Bytes image → check image ≡ answered [] → TreeLists L image 0 (scan L image)
+  -- in any image at all: the count is the number of pages read, at most twice the root's level plus one are read, and nothing else changes the answer
+  pub found-count : (image : List ℕ) (from : ℕ) (entry : List ℕ) (pages : ℕ) → next image from ≡ says (found entry pages) → pages ≡ length (pagesRead AtLeast L image from)
+  pub absent-count : (image : List ℕ) (from pages : ℕ) → next image from ≡ says (search.absent pages) → pages ≡ length (pagesRead AtLeast L image from)
+  pub few : (image : List ℕ) (from : ℕ) → length (pagesRead AtLeast L image from) ≤ 2 * rootLevel L image + 1
+  pub off-read : (from : ℕ) (one other : List ℕ) → AgreeOnRead AtLeast L from one other → next one from ≡ next other from

@@ -1,0 +1,138 @@
+//! The structs that the calls answer with, each field 64 bits wide and in the header's order.
+
+/// What every answer but a bare number begins with.
+pub trait Answered {
+    /// The fields `refusal`, `place` and `more`; the first is 0 where the call is answered.
+    fn refusal(&self) -> [u64; 3];
+}
+
+macro_rules! answers {
+    ($(
+        $(#[doc = $about:literal])*
+        $name:ident { $($(#[doc = $field_about:literal])* $field:ident,)* }
+    )*) => {$(
+        $(#[doc = $about])*
+        #[repr(C)]
+        #[derive(Clone, Copy, Debug, PartialEq, Eq)]
+        #[must_use]
+        pub struct $name {
+            /// 0 where the call is answered, else the number of the first fault met.
+            pub refusal: u64,
+            /// The place of that fault: an offset in the image, or 0.
+            pub place: u64,
+            /// What else the refusal says: for 17 the length needed, otherwise 0.
+            pub more: u64,
+            $($(#[doc = $field_about])* pub $field: u64,)*
+        }
+
+        impl $name {
+            /// The names of all fields, in their order.
+            pub const NAMES: &'static [&'static str] =
+                &["refusal", "place", "more", $(stringify!($field),)*];
+
+            /// All fields, in their order.
+            #[must_use]
+            pub fn fields(self) -> [u64; Self::NAMES.len()] {
+                [self.refusal, self.place, self.more, $(self.$field,)*]
+            }
+        }
+
+        impl Answered for $name {
+            fn refusal(&self) -> [u64; 3] {
+                [self.refusal, self.place, self.more]
+            }
+        }
+    )*};
+}
+
+answers! {
+    /// Accepted or done, or refused.
+    Answer {}
+
+    /// What the header says.
+    HeaderAnswer {
+        /// How block data is encoded: 0 not at all, 1 permute, 2 cyclic.
+        method,
+        /// The number of the node tree's root page.
+        nodes_number,
+        /// The offset of the node tree's root page.
+        nodes_offset,
+        /// The number of the block tree's root page.
+        blocks_number,
+        /// The offset of the block tree's root page.
+        blocks_offset,
+    }
+
+    /// A node.
+    NodeAnswer {
+        /// 1 where it is there, 0 where it is absent.
+        found,
+        /// How many pages were read, also where the node is absent.
+        pages,
+        /// Its number.
+        node,
+        /// The number of its data block, 0 for none.
+        data,
+        /// The number of its subnode block, 0 for none.
+        subnode,
+        /// The number of its parent node.
+        parent,
+    }
+
+    /// A block as it is listed.
+    BlockAnswer {
+        /// 1 where it is there, 0 where it is absent.
+        found,
+        /// How many pages were read, also where the block is absent.
+        pages,
+        /// Its number as stored.
+        block,
+        /// Where it starts in the image.
+        offset,
+        /// How many bytes it holds.
+        size,
+        /// How often it is referred to.
+        references,
+    }
+
+    /// The size of a block that was tested.
+    SizeAnswer {
+        /// How many bytes the block holds.
+        size,
+    }
+
+    /// The bytes of a block, in the caller's buffer.
+    LengthAnswer {
+        /// How many bytes now stand at the front of the buffer.
+        length,
+    }
+
+    /// The data of a node, in the caller's buffer.
+    DataAnswer {
+        /// 1 where the node is there, 0 where it is absent.
+        found,
+        /// How many bytes now stand at the front of the buffer; 0 for a node without data.
+        length,
+    }
+
+    /// Where an item stands in the caller's block.
+    ItemAnswer {
+        /// Its first byte.
+        start,
+        /// How many bytes it has.
+        length,
+    }
+
+    /// A property.
+    PropertyAnswer {
+        /// 1 where it is there, 0 where it is absent.
+        found,
+        /// Its type code; `type` in C.
+        type_code,
+        /// What `value` is: 0 the value itself, 1 nothing, 2 the number of a heap item, 3 the number
+        /// of a subnode.
+        kind,
+        /// The value, or the number of what holds it.
+        value,
+    }
+}

@@ -1,0 +1,177 @@
+//! The calls of `include/rekwonuda.h`, the C face of the proved library, over slices.
+//!
+//! Each function here is the call `rkw_` of the same name, and answers the same struct: numbers, with a
+//! refusal that is 0 where the call is answered. The header says what they mean. Crate `rekwonuda` puts
+//! Rust's types on top.
+//!
+//! This is the only crate with `unsafe` code. The header asks a caller for three things: a pointer that
+//! is not null with its true length, an image or block that does not change during the call, and a
+//! buffer that does not overlap it. A `&` slice and a `&mut` slice are just that.
+//!
+//! ```
+//! let answer = rekwonuda_sys::header(b"no image");
+//! assert_eq!((answer.refusal, answer.place), (1, 0));
+//! assert_eq!(rekwonuda_sys::checksum(&[0x80]), 0xEDB8_8320);
+//! ```
+#![deny(missing_docs)]
+#![warn(clippy::must_use_candidate)]
+
+mod answers;
+
+pub use answers::{
+    Answer, Answered, BlockAnswer, DataAnswer, HeaderAnswer, ItemAnswer, LengthAnswer, NodeAnswer,
+    PropertyAnswer, SizeAnswer,
+};
+
+extern "C" {
+    fn rkw_header(image: *const u8, len: usize) -> HeaderAnswer;
+    fn rkw_check_nodes(image: *const u8, len: usize) -> Answer;
+    fn rkw_check_blocks(image: *const u8, len: usize) -> Answer;
+    fn rkw_find_node(image: *const u8, len: usize, node: u64) -> NodeAnswer;
+    fn rkw_find_block(image: *const u8, len: usize, block: u64) -> BlockAnswer;
+    fn rkw_next_node(image: *const u8, len: usize, from: u64) -> NodeAnswer;
+    fn rkw_next_block(image: *const u8, len: usize, from: u64) -> BlockAnswer;
+    fn rkw_test_block(image: *const u8, len: usize, block: u64) -> SizeAnswer;
+    fn rkw_read_block(
+        image: *const u8,
+        len: usize,
+        block: u64,
+        out: *mut u8,
+        out_len: usize,
+    ) -> LengthAnswer;
+    fn rkw_read_node(
+        image: *const u8,
+        len: usize,
+        node: u64,
+        out: *mut u8,
+        out_len: usize,
+    ) -> DataAnswer;
+    fn rkw_encode(method: u8, block: u64, bytes: *mut u8, len: usize) -> Answer;
+    fn rkw_decode(method: u8, block: u64, bytes: *mut u8, len: usize) -> Answer;
+    fn rkw_test_heap(block: *const u8, len: usize) -> Answer;
+    fn rkw_test_item(block: *const u8, len: usize, item: u32) -> Answer;
+    fn rkw_item(block: *const u8, len: usize, item: u32) -> ItemAnswer;
+    fn rkw_find_property(block: *const u8, len: usize, id: u16) -> PropertyAnswer;
+    fn rkw_checksum(bytes: *const u8, len: usize) -> u64;
+    fn rkw_signature(offset: u64, number: u64) -> u64;
+    fn rkw_room(size: u32) -> u64;
+}
+
+/// Tests the header and says what stands in it. Refusals 1 to 5.
+pub fn header(image: &[u8]) -> HeaderAnswer {
+    // SAFETY: the pointer and the length are those of one slice.
+    unsafe { rkw_header(image.as_ptr(), image.len()) }
+}
+
+/// Checks the header and then the whole node tree. Refusals 1 to 11.
+pub fn check_nodes(image: &[u8]) -> Answer {
+    // SAFETY: the pointer and the length are those of one slice.
+    unsafe { rkw_check_nodes(image.as_ptr(), image.len()) }
+}
+
+/// Checks the header and then the whole block tree. Refusals 1 to 11.
+pub fn check_blocks(image: &[u8]) -> Answer {
+    // SAFETY: the pointer and the length are those of one slice.
+    unsafe { rkw_check_blocks(image.as_ptr(), image.len()) }
+}
+
+/// Looks up a node by the low four bytes of its number. Refusals 1 to 11.
+pub fn find_node(image: &[u8], node: u64) -> NodeAnswer {
+    // SAFETY: the pointer and the length are those of one slice.
+    unsafe { rkw_find_node(image.as_ptr(), image.len(), node) }
+}
+
+/// Looks up a block by its number. Refusals 1 to 11.
+pub fn find_block(image: &[u8], block: u64) -> BlockAnswer {
+    // SAFETY: the pointer and the length are those of one slice.
+    unsafe { rkw_find_block(image.as_ptr(), image.len(), block) }
+}
+
+/// Looks up the first node whose number is at least `from`. Refusals 1 to 11.
+pub fn next_node(image: &[u8], from: u64) -> NodeAnswer {
+    // SAFETY: the pointer and the length are those of one slice.
+    unsafe { rkw_next_node(image.as_ptr(), image.len(), from) }
+}
+
+/// Looks up the first block whose number is at least `from`. Refusals 1 to 11.
+pub fn next_block(image: &[u8], from: u64) -> BlockAnswer {
+    // SAFETY: the pointer and the length are those of one slice.
+    unsafe { rkw_next_block(image.as_ptr(), image.len(), from) }
+}
+
+/// Looks up a block and tests its place, trailer and checksum. Refusals 1 to 15.
+pub fn test_block(image: &[u8], block: u64) -> SizeAnswer {
+    // SAFETY: the pointer and the length are those of one slice.
+    unsafe { rkw_test_block(image.as_ptr(), image.len(), block) }
+}
+
+/// Tests a block and puts its bytes, decoded, at the front of `out`. Refusals 1 to 15, and 17.
+pub fn read_block(image: &[u8], block: u64, out: &mut [u8]) -> LengthAnswer {
+    let (start, length) = (out.as_mut_ptr(), out.len());
+    // SAFETY: each pointer and its length are those of one slice, and `out` is borrowed for writing alone.
+    unsafe { rkw_read_block(image.as_ptr(), image.len(), block, start, length) }
+}
+
+/// Looks up a node and puts its data at the front of `out`. Refusals 1 to 17.
+pub fn read_node(image: &[u8], node: u64, out: &mut [u8]) -> DataAnswer {
+    let (start, length) = (out.as_mut_ptr(), out.len());
+    // SAFETY: each pointer and its length are those of one slice, and `out` is borrowed for writing alone.
+    unsafe { rkw_read_node(image.as_ptr(), image.len(), node, start, length) }
+}
+
+/// Encodes the bytes in place as the data of that block. Refusal 5.
+pub fn encode(method: u8, block: u64, bytes: &mut [u8]) -> Answer {
+    // SAFETY: the pointer and the length are those of one slice, borrowed for writing alone.
+    unsafe { rkw_encode(method, block, bytes.as_mut_ptr(), bytes.len()) }
+}
+
+/// Decodes the bytes in place as the data of that block. Refusal 5.
+pub fn decode(method: u8, block: u64, bytes: &mut [u8]) -> Answer {
+    // SAFETY: the pointer and the length are those of one slice, borrowed for writing alone.
+    unsafe { rkw_decode(method, block, bytes.as_mut_ptr(), bytes.len()) }
+}
+
+/// Tests the shape of the heap on the block. Refusal 18.
+pub fn test_heap(block: &[u8]) -> Answer {
+    // SAFETY: the pointer and the length are those of one slice.
+    unsafe { rkw_test_heap(block.as_ptr(), block.len()) }
+}
+
+/// Tests the heap and then the number of an item. Refusals 18 and 19.
+pub fn test_item(block: &[u8], item: u32) -> Answer {
+    // SAFETY: the pointer and the length are those of one slice.
+    unsafe { rkw_test_item(block.as_ptr(), block.len(), item) }
+}
+
+/// Says where an item stands in the block. Refusals 18 and 19.
+pub fn item(block: &[u8], item: u32) -> ItemAnswer {
+    // SAFETY: the pointer and the length are those of one slice.
+    unsafe { rkw_item(block.as_ptr(), block.len(), item) }
+}
+
+/// Looks up a property by its id. Refusals 18 to 20.
+pub fn find_property(block: &[u8], id: u16) -> PropertyAnswer {
+    // SAFETY: the pointer and the length are those of one slice.
+    unsafe { rkw_find_property(block.as_ptr(), block.len(), id) }
+}
+
+/// The checksum of the bytes. Under 2^32.
+#[must_use]
+pub fn checksum(bytes: &[u8]) -> u64 {
+    // SAFETY: the pointer and the length are those of one slice.
+    unsafe { rkw_checksum(bytes.as_ptr(), bytes.len()) }
+}
+
+/// The signature of a page or block at that offset and with that number. Under 65,536.
+#[must_use]
+pub fn signature(offset: u64, number: u64) -> u64 {
+    // SAFETY: the call takes numbers alone, and any will do.
+    unsafe { rkw_signature(offset, number) }
+}
+
+/// The room that a block with so many bytes of data takes in a file.
+#[must_use]
+pub fn room(size: u32) -> u64 {
+    // SAFETY: the call takes a number alone, and any will do.
+    unsafe { rkw_room(size) }
+}

@@ -1,0 +1,84 @@
+macro_rules! faults {
+    ($($(#[doc = $about:literal])* $number:literal $name:ident,)*) => {
+        /// What is wrong, by the numbers of `include/rekwonuda.h`.
+        ///
+        /// ```
+        /// use rekwonuda::{Fault, Image};
+        ///
+        /// let refusal = Image::new(&[0; 564]).header().unwrap_err();
+        /// assert_eq!(refusal.fault, Fault::Magic);
+        /// assert_eq!(refusal.fault.number(), 2);
+        /// assert_eq!(Fault::from(9), Fault::PageChecksum);
+        /// ```
+        #[non_exhaustive]
+        #[derive(Clone, Copy, Debug, PartialEq, Eq, PartialOrd, Ord, Hash)]
+        pub enum Fault {
+            $($(#[doc = $about])* $name,)*
+            /// A number that this crate has no name for: the archive is newer than the crate.
+            Unnamed(u64),
+        }
+
+        impl Fault {
+            /// Its number.
+            #[must_use]
+            pub const fn number(self) -> u64 {
+                match self {
+                    $(Self::$name => $number,)*
+                    Self::Unnamed(number) => number,
+                }
+            }
+        }
+
+        impl From<u64> for Fault {
+            fn from(number: u64) -> Self {
+                match number {
+                    $($number => Self::$name,)*
+                    _ => Self::Unnamed(number),
+                }
+            }
+        }
+    };
+}
+
+faults! {
+    /// 1: the image is under 564 or over 1,073,741,824 bytes long.
+    1 ImageLength,
+    /// 2: the magic bytes are wrong, at 0 or 8.
+    2 Magic,
+    /// 3: the version is not 23, that of the 64-bit edition; at 10.
+    3 Version,
+    /// 4: a checksum of the header differs, at 4 or 524.
+    4 HeaderChecksum,
+    /// 5: the header's sentinel or encoding method is wrong, at 512 or 513.
+    5 Encoding,
+    /// 6: the offset of a page is not allowed.
+    6 PageOffset,
+    /// 7: the kind of a page is wrong.
+    7 PageKind,
+    /// 8: the number or signature of a page is wrong.
+    8 PageNumber,
+    /// 9: the checksum of a page differs.
+    9 PageChecksum,
+    /// 10: the counts or the level of a page are wrong.
+    10 PageCounts,
+    /// 11: the keys of a page do not ascend, or lie outside the page's range.
+    11 PageKeys,
+    /// 12: a block to be tested or read is not in the block tree.
+    12 BlockUnlisted,
+    /// 13: the offset or size of a block is not allowed.
+    13 BlockOffset,
+    /// 14: the trailer of a block is wrong.
+    14 BlockTrailer,
+    /// 15: the checksum of a block differs.
+    15 BlockChecksum,
+    /// 16: the shape of a data tree is wrong; at its root block.
+    16 DataTree,
+    /// 17: the buffer is shorter than the data.
+    17 ShortBuffer,
+    /// 18: the shape of a heap is wrong.
+    18 HeapShape,
+    /// 19: the number of a heap item is wrong.
+    19 HeapItem,
+    /// 20: the shape of a property tree is wrong.
+    20 PropertyTree,
+}

@@ -1,0 +1,89 @@
+use std::fmt;
+
+macro_rules! id {
+    ($(#[doc = $about:literal])* $name:ident($number:ident)) => {
+        $(#[doc = $about])*
+        #[derive(Clone, Copy, Debug, Default, PartialEq, Eq, PartialOrd, Ord, Hash)]
+        pub struct $name(
+            /// The number itself.
+            pub $number,
+        );
+
+        impl From<$number> for $name {
+            fn from(number: $number) -> Self {
+                Self(number)
+            }
+        }
+
+        impl From<$name> for $number {
+            fn from(id: $name) -> Self {
+                id.0
+            }
+        }
+
+        /// Hexadecimal after 0x.
+        impl fmt::Display for $name {
+            fn fmt(&self, out: &mut fmt::Formatter<'_>) -> fmt::Result {
+                out.pad(&format!("{:#x}", self.0))
+            }
+        }
+
+        impl fmt::LowerHex for $name {
+            fn fmt(&self, out: &mut fmt::Formatter<'_>) -> fmt::Result {
+                fmt::LowerHex::fmt(&self.0, out)
+            }
+        }
+    };
+}
+
+id! {
+    /// The number of a node. A file stores it in eight bytes, of which the low four count.
+    ///
+    /// ```
+    /// use rekwonuda::NodeId;
+    ///
+    /// let root_folder = NodeId(0x122);
+    /// assert_eq!(root_folder.to_string(), "0x122");
+    /// assert!(root_folder > NodeId(0x21));
+    /// ```
+    NodeId(u32)
+}
+
+id! {
+    /// The number of a block.
+    ///
+    /// ```
+    /// use rekwonuda::BlockId;
+    ///
+    /// assert!(BlockId(0x1A).is_internal());
+    /// assert!(!BlockId(0x1C).is_internal());
+    /// assert_eq!(u64::from(BlockId(0x1C)), 28);
+    /// ```
+    BlockId(u64)
+}
+
+id! {
+    /// The number of an item on a heap.
+    ///
+    /// ```
+    /// use rekwonuda::{Fault, Heap, ItemId};
+    ///
+    /// let refusal = Heap::new(&[0; 40]).item(ItemId(0x20)).unwrap_err();
+    /// assert_eq!(refusal.fault, Fault::HeapShape);
+    /// ```
+    ItemId(u32)
+}
+
+impl BlockId {
+    /// Whether the block is internal: it names other blocks, and is never encoded. Bit 1 of the number
+    /// says so.
+    #[must_use]
+    pub const fn is_internal(self) -> bool {
+        self.0 & 2 != 0
+    }
+
+    /// The block of that number, where 0 stands for none.
+    pub(crate) fn unless_zero(number: u64) -> Option<Self> {
+        (number != 0).then_some(Self(number))
+    }
+}
