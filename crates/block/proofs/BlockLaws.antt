@@ -9,7 +9,7 @@ use lib.Dec.{leb, eqb}
 use lib.ListN.{length, take, drop}
 use borrow.Author.Tests.{leb-true, lt-leb, le-leb}
 use Rattle.laws.proofs.Tests.{and-both}
-use Rattle.le.specs.Bytes.{part, byte}
+use Rattle.le.specs.Bytes.{part}
 use Rattle.le.proofs.FieldLaws.{part-length}
 use Rattle.coding.specs.Coding.{decoded}
 use Rattle.coding.proofs.CodingLaws.{coded-length}
@@ -19,7 +19,7 @@ use Rattle.refusal.specs.declared.Verdict.the-variants.{Accepted, Refused}
 use Rattle.refusal.specs.declared.Fault.the-variants.{BlockUnlisted, BlockOffset, ShortBuffer}
 use Rattle.refusal.specs.Order.{_at_, _needing_, inOrder, AllHold, both}
 use Rattle.refusal.proofs.OrderLaws.{test-goes, test-ends, goes, ends, accepted-exactly}
-use Rattle.header.specs.Header.{fileEnd}
+use Rattle.header.specs.Header.{fileEnd, methodOf}
 use Rattle.header.proofs.HeaderLaws.{end-inside}
 use Rattle.tree.specs.declared.Listed.{Listed}
 use Rattle.tree.specs.declared.FoundBlock.{FoundBlock}
@@ -189,7 +189,7 @@ plain-length method number s = by (internal number)
 
 pub bytes-length : (image : List ℕ) (b : Listed) → b .offset + b .size ≤ length image → length (blockBytes image b) ≡ b .size
 unfolding blockBytes
-bytes-length image b h = plain-length (byte image 513) (b .block) (part image (b .offset) (b .size)) ∙ part-length image (b .offset) (b .size) h
+bytes-length image b h = plain-length (methodOf image) (b .block) (part image (b .offset) (b .size)) ∙ part-length image (b .offset) (b .size) h
 
 -- 17
 pub fits-space : (size space : ℕ) → size ≤ space → sized.Size size ≡ fitting size space

@@ -4,14 +4,14 @@ use mathlib.Core.Bool.{Bool, _&&_, cond}
 use mathlib.Core.List.{List, [], _∷_, _++_}
 use lib.Dec.{leb, eqb}
 use lib.ListN.{length, drop}
-use Rattle.le.specs.Bytes.{part, field, byte}
+use Rattle.le.specs.Bytes.{part, field}
 use Rattle.crc.specs.Checksum.{checksum}
 use Rattle.coding.specs.Coding.{decoded}
 use Rattle.refusal.specs.declared.Refusal.{Refusal}
 use Rattle.refusal.specs.declared.Verdict.{Verdict}
 use Rattle.refusal.specs.declared.Fault.the-variants.{BlockUnlisted, BlockOffset, BlockTrailer, BlockChecksum, ShortBuffer}
 use Rattle.refusal.specs.Order.{_at_, _needing_, Rule, rule, inOrder, after}
-use Rattle.header.specs.Header.{fileEnd}
+use Rattle.header.specs.Header.{fileEnd, methodOf}
 use Rattle.page.specs.Page.{signature}
 use Rattle.tree.specs.declared.Listed.{Listed}
 use Rattle.tree.specs.declared.FoundBlock.{FoundBlock}
@@ -96,7 +96,7 @@ plain method number bytes = cond (internal number) bytes (decoded method number 
 
 -- a block's bytes, decoded unless it is internal
 unfoldable pub blockBytes : List ℕ → Listed → List ℕ
-blockBytes image b = plain (byte image 513) (b .block) (part image (b .offset) (b .size))
+blockBytes image b = plain (methodOf image) (b .block) (part image (b .offset) (b .size))
 
 -- the bytes at the front of a buffer, what follows them as it was
 abbrev pub fronted : List ℕ → List ℕ → List ℕ

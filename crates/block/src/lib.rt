@@ -217,7 +217,8 @@ pub fn block_into(image: &[u8], b: Listed, out: &mut [u8])
 {
     let at = b.offset as usize;
     let size = b.size as usize;
-    decode_into(image[513], b.block, &image[at..at + size], out);
+    let method = header::method_of(image);
+    decode_into(method, b.block, &image[at..at + size], out);
 }
 
 // A refusal, as the answer of a read; the size of what is no refusal.

@@ -1,6 +1,6 @@
 -- What upper layers may know of the header. Assumes nothing.
 use Prim.Native.Nat.{ℕ, _+_, _≤_, _<_}
-use mathlib.Core.Path.{_≡_, sym, ap, ap₂, _∙_}
+use mathlib.Core.Path.{_≡_, refl, sym, ap, ap₂, _∙_}
 use mathlib.Core.Bool.{Bool, true, _&&_}
 use mathlib.Core.Logic.{_↔_}
 use mathlib.Core.List.{List}
@@ -18,7 +18,7 @@ use Rattle.refusal.specs.declared.Refusal.{Refusal}
 use Rattle.refusal.specs.declared.Verdict.the-variants.{Accepted, Refused}
 use Rattle.refusal.specs.Order.{_then_, inOrder, AllHold, none, both, FirstFault}
 use Rattle.refusal.proofs.OrderLaws.{demanded, then-left, accepted-exactly, refused-exactly, in-order-append}
-use Rattle.header.specs.Header.{lengthFits, magicFits, clientFits, versionFits, headerSumFits, sentinelFits, encodingFits, markRules, sealRules, headerRules, headerFits, fileEnd}
+use Rattle.header.specs.Header.{lengthFits, magicFits, clientFits, versionFits, headerSumFits, sentinelFits, methodOf, encodingFits, markRules, sealRules, headerRules, headerFits, fileEnd}
 use Rattle.header.specs.Sound.{HeaderSound}
 
 pub long-enough : (image : List ℕ) → lengthFits image ≡ true → 564 ≤ length image
@@ -28,6 +28,11 @@ long-enough image e = leb-true 564 (length image) (and-both (leb 564 (length ima
 pub marks-long : (image : List ℕ) → inOrder (markRules image) ≡ Accepted → 564 ≤ length image
 unfolding markRules inOrder
 marks-long image e = long-enough image (demanded _ _ (then-left _ _ e))
+
+-- the header's test is that of its rules
+pub header-rules : (image : List ℕ) → headerFits image ≡ inOrder (headerRules image)
+unfolding headerFits
+header-rules image = refl
 
 -- the marks, then the seals
 pub header-is : (image : List ℕ) → headerFits image ≡ (inOrder (markRules image) then inOrder (sealRules image))
@@ -124,7 +129,7 @@ unfolding fileEnd
 end-agrees one other e same = e
 
 pub header-agrees : (one other : List ℕ) → length one ≡ length other → part one 0 564 ≡ part other 0 564 → headerFits one ≡ headerFits other
-unfolding headerFits markRules sealRules lengthFits magicFits clientFits versionFits headerSumFits sentinelFits encodingFits
+unfolding headerFits markRules sealRules lengthFits magicFits clientFits versionFits headerSumFits sentinelFits methodOf encodingFits
 header-agrees one other e same =
     let b = byte-agrees one other same in
     let f : (place width : ℕ) → place + width ≤ 564 → field one place width ≡ field other place width = λ place width h. field-agrees one other place width same h in

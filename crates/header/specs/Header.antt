@@ -39,9 +39,12 @@ headerSumFits image place size = eqb (field image place 4) (checksum (part image
 unfoldable pub sentinelFits : List ℕ → Bool
 sentinelFits image = eqb (byte image 512) 0x80
 
--- "byte 513 is 0 (none), 1 (permute) or 2 (cyclic)"
+-- the encoding method: "byte 513 is 0 (none), 1 (permute) or 2 (cyclic)"
+unfoldable pub methodOf : List ℕ → ℕ
+methodOf image = byte image 513
+
 unfoldable pub encodingFits : List ℕ → Bool
-encodingFits image = leb (byte image 513) 2
+encodingFits image = leb (methodOf image) 2
 
 -- the header's tests, in their order: its marks, and then its seals
 unfoldable pub markRules : List ℕ → List Rule
@@ -74,7 +77,7 @@ referenceAt image place = record { number = field image place 8; offset = field 
 unfoldable pub says : List ℕ → Header
 says image =
     record {
-      method = byte image 513;
+      method = methodOf image;
       nodes = referenceAt image 216;
       blocks = referenceAt image 232;
     }

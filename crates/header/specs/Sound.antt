@@ -5,6 +5,7 @@ use mathlib.Core.List.{List}
 use lib.ListN.{length}
 use Rattle.le.specs.Bytes.{part, field, byte}
 use Rattle.crc.specs.Checksum.{checksum}
+use Rattle.header.specs.Header.{methodOf}
 
 pub record HeaderSound (image : List ℕ) : Type 0 where
   pub length-low : 564 ≤ length image
@@ -15,4 +16,4 @@ pub record HeaderSound (image : List ℕ) : Type 0 where
   pub partial : field image 4 4 ≡ checksum (part image 8 471)
   pub full : field image 524 4 ≡ checksum (part image 8 516)
   pub sentinel : byte image 512 ≡ 0x80
-  pub encoding : byte image 513 ≤ 2
+  pub encoding : methodOf image ≤ 2

@@ -9,7 +9,7 @@ ghost use lib.ListN.{length};
 ghost use Rattle.le.specs.Bytes.{part, field};
 ghost use Rattle.crc.specs.Checksum.{checksum};
 ghost use Rattle.refusal.specs.Order.{inOrder};
-ghost use Rattle.header.specs.Header.{lengthFits, magicFits, clientFits, versionFits, sentinelFits, encodingFits, markRules, sealRules, headerFits, referenceAt, headerOf, fileEnd};
+ghost use Rattle.header.specs.Header.{lengthFits, magicFits, clientFits, versionFits, sentinelFits, methodOf, encodingFits, markRules, sealRules, headerFits, referenceAt, headerOf, fileEnd};
 
 // A page as the header refers to it.
 pub struct Reference {
@@ -86,11 +86,19 @@ fn sentinel_fits(image: &[u8]) -> bool
     image[512] == 0x80
 }
 
+// The encoding method.
+pub fn method_of(image: &[u8]) -> u8
+    requires { ⌜ 564 ≤ length (now image) ⌝ }
+    ensures { λ r. ⌜ r ≡ methodOf (now (image .entry)) ⌝ }
+{
+    le::byte_at(image, 513)
+}
+
 fn encoding_fits(image: &[u8]) -> bool
     requires { ⌜ 564 ≤ length (now image) ⌝ }
     ensures { λ r. ⌜ r ≡ encodingFits (now (image .entry)) ⌝ }
 {
-    image[513] <= 2
+    method_of(image) <= 2
 }
 
 // The image's length, and the marks of the format and its version.
@@ -161,8 +169,9 @@ pub fn header_of(image: &[u8]) -> HeaderAnswer
     }
     let nodes = reference_at(image, 216);
     let blocks = reference_at(image, 232);
+    let method = method_of(image);
     HeaderAnswer::Says(Header {
-        method: image[513],
+        method,
         nodes,
         blocks,
     })

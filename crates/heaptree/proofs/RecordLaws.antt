@@ -13,10 +13,11 @@ use Rattle.keys.specs.declared.Range.{Range}
 use Rattle.keys.specs.declared.Shape.{Shape}
 use Rattle.keys.specs.declared.Seat.the-variants.{At, Nowhere}
 use Rattle.keys.specs.declared.Sought.the-variants.{Equal}
-use Rattle.keys.specs.Records.{keyOf, keysOf, records, recordAt, RecordsIn}
+use Rattle.keys.specs.Records.{keyOf, keyAt, keysOf, records, recordsFrom, recordAt, RecordsIn}
 use Rattle.keys.specs.Range.{rangeAt}
 use Rattle.keys.specs.Search.{lastAtMost, firstThat, withKey}
-use Rattle.keys.proofs.RecordLaws.{record-inside, field-at}
+use Rattle.keys.proofs.RecordLaws.{record-inside, field-at, key-width, record-is}
+use Rattle.keys.proofs.RangeLaws.{end-same}
 use Rattle.keys.proofs.FoundLaws.{found-inside, record-found, record-absent, chosen-inside}
 use Rattle.search.specs.SearchTree.{offspring, children}
 use Rattle.search.specs.Answer.{Answer, answer}
@@ -46,14 +47,13 @@ record-lies shape bytes i h = record-inside (length bytes / shape .size) (shape 
 
 -- the key of a record is the tree's, whatever its shape
 module _ (tree : HeapTree) where
-  pub keyed : (levels : ℕ) (e : List ℕ) → keyOf (shapeAt tree levels) e ≡ recordKey tree e
-  unfolding shapeAt keyOf
-  keyed zero e = refl
-  keyed (suc levels) e = refl
-
   pub index-keyed : (e : List ℕ) → keyOf (indexShape tree) e ≡ recordKey tree e
-  unfolding keyOf
-  index-keyed e = refl
+  index-keyed e = key-width (indexShape tree) (leafShape tree) refl e
+
+  pub keyed : (levels : ℕ) (e : List ℕ) → keyOf (shapeAt tree levels) e ≡ recordKey tree e
+  unfolding shapeAt
+  keyed zero e = refl
+  keyed (suc levels) e = index-keyed e
 
 -- the leaf record that is found, in an item of the heap
 module _ (tree : HeapTree) (block : List ℕ) (heap : Heap block) (item : ℕ) (named : Numbered block item) (key : ℕ) where
@@ -73,11 +73,12 @@ module _ (tree : HeapTree) (block : List ℕ) (heap : Heap block) (item : ℕ) (
       omega (arith, lies .inside, lies .whole, inside)
 
   same-part : (i : ℕ) → sought i → recordAt (leafShape tree) bytes i ≡ part block (itemStart block item + i * (tree .key + tree .entry)) (tree .key + tree .entry)
-  unfolding recordAt itemPart
+  unfolding itemPart
   same-part i e =
       let lies = item-lies block heap item named in
       let inside = record-lies (leafShape tree) bytes i (found-inside (leafShape tree) (recordCount (leafShape tree) bytes) bytes Equal key i e) in
-      part-part block (itemStart block item) (itemLength block item) (i * (tree .key + tree .entry)) (tree .key + tree .entry) (omega (arith, lies .whole, inside))
+      record-is (leafShape tree) bytes i (tree .key + tree .entry) refl
+      ∙ part-part block (itemStart block item) (itemLength block item) (i * (tree .key + tree .entry)) (tree .key + tree .entry) (omega (arith, lies .whole, inside))
 
   pub leaf-at : (i : ℕ) → sought i → Shows tree block (found.At (itemStart block item + i * (tree .key + tree .entry))) told
   unfolding recordsOf
@@ -120,9 +121,10 @@ module _ (tree : HeapTree) (block : List ℕ) (branch : Branch) (key count : ℕ
 
   pub child-chosen : (i : ℕ) → At i ≡ lastAtMost key (keysOf (indexShape tree) count bytes)
       → (l : ℕ) → childAt (keyOf (indexShape tree)) kid (branch .range .to) (indexShape tree) count bytes i ∷ [] ≡ picked (treeOn tree block) Equal key (children (treeOn tree block) l branch)
-  unfolding keyOf
   child-chosen i e l =
-      sym (ap (picked (treeOn tree block) Equal key) (kids-are l)
+      ap (λ (end : End). kid (record { from = keyAt (indexShape tree) bytes i; to = end }) (recordAt (indexShape tree) bytes i) ∷ [])
+      (end-same (keyOf (indexShape tree)) (recordKey tree) (index-keyed tree) (branch .range .to) (recordsFrom (indexShape tree) count bytes (i + 1)))
+      ∙ sym (ap (picked (treeOn tree block) Equal key) (kids-are l)
       ∙ chosen-some (recordKey tree) (indexShape tree) (index-keyed tree) count bytes (branch .range .to) kid (λ (b : Branch). b .range) ranged key i e)
 
 -- the two shapes

@@ -20,6 +20,8 @@ use Rattle.keys.specs.declared.Shape.{Shape}
 use Rattle.keys.specs.declared.Order.the-variants.{Climbing}
 use Rattle.keys.specs.Records.{keyOf, records, keysOf, RecordsIn}
 use Rattle.keys.specs.Range.{ordered}
+use Rattle.keys.proofs.RecordLaws.{key-width, keys-width}
+use Rattle.keys.proofs.FoundLaws.{keys-are}
 use Rattle.keys.proofs.Climbs.{climbing-is}
 use Rattle.header.specs.Header.{fileEnd}
 use Rattle.header.proofs.HeaderLaws.{end-inside}
@@ -123,12 +125,50 @@ module _ (L : Layout) (p : Link) (g : List ℕ) (fair : FairLayout L) (ok : coun
         word = omega (arith, fair .key, fair .word);
       }
 
--- the key of an entry does not depend on the level of its page
-pub keys-of-entries : (L : Layout) (g : List ℕ) → keysOf (shape L (levelOf L g)) (countOf L g) g ≡ map (keyIn L) (entries L g)
-unfolding keysOf keyOf keyIn entries shape
-keys-of-entries L g = refl
+-- the entries of a page are records, their shape a matter of its level
+pub entries-are : (L : Layout) (g : List ℕ) → entries L g ≡ records (shape L (levelOf L g)) (countOf L g) g
+unfolding entries
+entries-are L g = refl
 
--- a page's tests: 6, then those of its bytes
+module _ (L : Layout) (level : ℕ) where
+  pub shape-size : (shape L level) .size ≡ entrySize L level
+  unfolding shape
+  shape-size = refl
+
+  pub shape-width : (shape L level) .width ≡ L .key
+  unfolding shape
+  shape-width = refl
+
+  pub leaf-size : level ≡ 0 → (shape L level) .size ≡ L .leafsize
+  unfolding shape entrySize
+  leaf-size e = rw e
+
+-- the key of an entry does not depend on the level of its page, but on its width alone
+pub entry-keyed : (L : Layout) (s : Shape) → s .width ≡ L .key → (e : List ℕ) → keyOf s e ≡ keyIn L e
+unfolding keyIn
+entry-keyed L s h e = key-width s (shape L 0) (h ∙ sym (shape-width L 0)) e
+
+pub keys-of-entries : (L : Layout) (g : List ℕ) → keysOf (shape L (levelOf L g)) (countOf L g) g ≡ map (keyIn L) (entries L g)
+unfolding keyIn
+keys-of-entries L g =
+    keys-are (shape L (levelOf L g)) (countOf L g) g
+    ∙ keys-width (shape L (levelOf L g)) (shape L 0) (shape-width L (levelOf L g) ∙ sym (shape-width L 0)) (records (shape L (levelOf L g)) (countOf L g) g)
+    ∙ ap (map (keyOf (shape L 0))) (sym (entries-are L g))
+
+-- a child has the level that is asked for, and is not empty
+pub level-wanted : (w level : ℕ) → levelFits (Exactly w) level ≡ true → level ≡ w
+unfolding levelFits
+level-wanted w level e = eqb-true level w e
+
+pub child-filled : (w level : ℕ) → mayBeEmpty (Exactly w) level ≡ false
+unfolding mayBeEmpty
+child-filled w level = refl
+
+-- a page's tests: its rules; 6, then those of its bytes
+pub page-rules : (L : Layout) (image : List ℕ) (p : Link) → pageFits L image p ≡ inOrder (pageRules L image p)
+unfolding pageFits
+page-rules L image p = refl
+
 pub page-goes : (L : Layout) (image : List ℕ) (p : Link) → offsetFits image (p .offset) ≡ true → inOrder (bytesRules L p (page image (p .offset))) ≡ pageFits L image p
 unfolding pageFits pageRules inOrder
 page-goes L image p e = sym (test-goes Refused _ _ _ e)

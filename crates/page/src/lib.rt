@@ -13,7 +13,7 @@ ghost use lib.ListN.{length};
 ghost use Rattle.le.specs.Bytes.{byte};
 ghost use Rattle.refusal.specs.Order.{inOrder};
 ghost use Rattle.page.specs.Layout.{nbt, bbt, FairLayout, compared as comparedOf, entrySize, mostRoom, shape};
-ghost use Rattle.page.specs.Page.{signature as signatureOf, offsetFits, kindFits, numberFits, checksumFits, levelFits, mayBeEmpty, countsFit, keysFit, bytesRules, pageFits};
+ghost use Rattle.page.specs.Page.{signature as signatureOf, countOf, levelOf, offsetFits, kindFits, numberFits, checksumFits, levelFits, mayBeEmpty, countsFit, keysFit, bytesRules, pageFits};
 
 // The bytes of an entry that hold one of its numbers.
 pub struct Column {
@@ -138,7 +138,7 @@ pub fn compared(l: Layout, key: u64) -> u64
 }
 
 // A byte as a count.
-pub fn count_at(page: &[u8], place: usize) -> usize
+fn count_at(page: &[u8], place: usize) -> usize
     requires { ⌜ place < length (now page) ⌝ }
     ensures { λ r. ⌜ (r ≡ byte (now (page .entry)) place) × (r < 256) ⌝ }
 {
@@ -236,6 +236,28 @@ pub fn shape_of(l: Layout, level: usize) -> Shape
     Shape { size, width: l.key }
 }
 
+// How many entries a page has, its level, and the shape of its entries.
+pub fn count_of(l: Layout, page: &[u8]) -> usize
+    requires { ⌜ FairLayout l × (length (now page) ≡ 512) ⌝ }
+    ensures { λ r. ⌜ (r ≡ countOf l (now (page .entry))) × (r < 256) ⌝ }
+{
+    count_at(page, l.counts)
+}
+
+pub fn level_of(l: Layout, page: &[u8]) -> usize
+    requires { ⌜ FairLayout l × (length (now page) ≡ 512) ⌝ }
+    ensures { λ r. ⌜ (r ≡ levelOf l (now (page .entry))) × (r < 256) ⌝ }
+{
+    count_at(page, l.counts + 3)
+}
+
+pub fn shape_in(l: Layout, page: &[u8]) -> Shape
+    requires { ⌜ FairLayout l × (length (now page) ≡ 512) ⌝ }
+    ensures { λ r. ⌜ r ≡ shape l (levelOf l (now (page .entry))) ⌝ }
+{
+    shape_of(l, level_of(l, page))
+}
+
 // Test 10.
 fn counts_fit(l: Layout, p: Link, page: &[u8]) -> bool
     requires { ⌜ FairLayout l × (length (now page) ≡ 512) ⌝ }
@@ -259,9 +281,8 @@ fn keys_fit(l: Layout, p: Link, page: &[u8]) -> bool
     requires { ⌜ FairLayout l × (length (now page) ≡ 512) × (countsFit l p (now page) ≡ true) ⌝ }
     ensures { λ r. ⌜ r ≡ keysFit l p (now (page .entry)) ⌝ }
 {
-    let place = l.counts;
-    let count = count_at(page, place);
-    let shape = shape_of(l, count_at(page, place + 3));
+    let count = count_of(l, page);
+    let shape = shape_in(l, page);
     let range = p.range;
     let order = keys::check_keys(page, shape, count, range);
     keys::is_climbing(order)

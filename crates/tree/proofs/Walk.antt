@@ -5,7 +5,7 @@ use mathlib.Core.Bool.{Bool, true, false, _||_}
 use mathlib.Core.List.{List, [], _∷_}
 use native.Mathlib.Omega.{arith}
 use lib.ListN.{length}
-use borrow.Author.Tests.{eqb-true, leb-true}
+use borrow.Author.Tests.{leb-true}
 use Rattle.refusal.specs.declared.Refusal.{Refusal}
 use Rattle.refusal.specs.declared.Verdict.{Verdict}
 use Rattle.refusal.specs.declared.Verdict.the-variants.{Accepted, Refused}
@@ -23,7 +23,8 @@ use Rattle.page.specs.declared.Level.the-variants.{Exactly}
 use Rattle.page.specs.declared.Link.{Link}
 use Rattle.page.specs.Layout.{shape, FairLayout}
 use Rattle.page.specs.Page.{page, countOf, levelOf, keyIn, offsetFits, levelFits, mayBeEmpty, countsFit, pageFits}
-use Rattle.page.proofs.PageLaws.{counts-of, few, all-of-page, page-offset, page-counts, page-ends}
+use Rattle.header.proofs.HeaderLaws.{header-rules}
+use Rattle.page.proofs.PageLaws.{counts-of, few, level-wanted, child-filled, page-rules, all-of-page, page-offset, page-counts, page-ends}
 use Rattle.tree.specs.declared.Next.the-variants.{Here, NoMore}
 use Rattle.tree.specs.Tree.{root, rootLevel, linkOf, pageTree, treeRules, treeFits}
 use Rattle.tree.specs.Answers.{kidsFrom, nextOf}
@@ -46,21 +47,19 @@ module _ (L : Layout) (image : List ℕ) (p : Link) (ok : pageFits L image p ≡
 
   -- it has the level that its reference asks for
   pub accepted-level : (l : ℕ) → p .level ≡ Exactly l → levelOf L (page image (p .offset)) ≡ l
-  unfolding levelFits
   accepted-level l e =
-      eqb-true _ l (sym (ap (λ w. levelFits w (levelOf L (page image (p .offset)))) e) ∙ counts-of L p (page image (p .offset)) accepted-counts .level)
+      level-wanted l _ (sym (ap (λ w. levelFits w (levelOf L (page image (p .offset)))) e) ∙ counts-of L p (page image (p .offset)) accepted-counts .level)
 
   -- and an entry, where it is not the root
   pub some-entry : (l : ℕ) → p .level ≡ Exactly l → 1 ≤ countOf L (page image (p .offset))
-  unfolding mayBeEmpty
   some-entry l e =
       let g = page image (p .offset) in
-      leb-true 1 (countOf L g) (or-false _ _ (ap (λ w. mayBeEmpty w (levelOf L g)) e) (counts-of L p g accepted-counts .some))
+      leb-true 1 (countOf L g) (or-false _ _ (ap (λ w. mayBeEmpty w (levelOf L g)) e ∙ child-filled l (levelOf L g)) (counts-of L p g accepted-counts .some))
 
 -- the test of a page, whatever its level
 pub test-is : (L : Layout) (image : List ℕ) (l : ℕ) (p : Link) → test (pageTree L image) l p ≡ pageFits L image p
-unfolding test pageFits
-test-is L image l p = refl
+unfolding test
+test-is L image l p = sym (page-rules L image p)
 
 -- a child has the level below
 pub born-level : (L : Layout) (image : List ℕ) (l : ℕ) (c : Link) → Born (pageTree L image) l c → c .level ≡ Exactly l
@@ -131,8 +130,8 @@ module _ (L : Layout) (image : List ℕ) (p : Link) where
 
 -- the header, and then the tree from its root
 pub tree-parts : (L : Layout) (image : List ℕ) → treeFits L image ≡ (headerFits image then checkUnder (pageTree L image) (rootLevel L image) (root L image))
-unfolding treeFits treeRules headerFits checkUnder
-tree-parts L image = in-order-append (headerRules image) (rulesUnder (pageTree L image) (rootLevel L image) (root L image))
+unfolding treeFits treeRules checkUnder
+tree-parts L image = rw (header-rules image) (in-order-append (headerRules image) (rulesUnder (pageTree L image) (rootLevel L image) (root L image)))
 
 module _ (L : Layout) (image : List ℕ) (v : Verdict) (header-is : v ≡ headerFits image) where
   pub tree-refused : (r : Refusal) → v ≡ Refused r → v ≡ treeFits L image

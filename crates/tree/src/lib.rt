@@ -109,12 +109,11 @@ fn next_link(l: Layout, page: &[u8], level: usize, p: Link, i: usize) -> Next
     requires { ⌜ FairLayout l × (length (now page) ≡ 512) × (countsFit l p (now page) ≡ true) ⌝ }
     ensures { λ r. ⌜ r ≡ nextOf (childrenFrom (keyIn l) (linkOf l level) (p .range .to) (shape l (levelOf l (now (page .entry)))) (countOf l (now (page .entry))) (now (page .entry)) i) ⌝ }
 {
-    let place = l.counts;
-    let count = page::count_at(page, place);
+    let count = page::count_of(l, page);
     if count <= i {
         return Next::NoMore;
     }
-    let shape = page::shape_of(l, page::count_at(page, place + 3));
+    let shape = page::shape_in(l, page);
     let range = p.range;
     let to = range.to;
     let child = link_at(l, page, shape, count, level, to, i);
@@ -174,9 +173,8 @@ fn choose(l: Layout, page: &[u8], level: usize, p: Link, key: u64) -> Next
     requires { ⌜ FairLayout l × (length (now page) ≡ 512) × (countsFit l p (now page) ≡ true) ⌝ }
     ensures { λ r. ⌜ r ≡ nextOf (chosenOf l level (p .range .to) key (now (page .entry))) ⌝ }
 {
-    let place = l.counts;
-    let count = page::count_at(page, place);
-    let shape = page::shape_of(l, page::count_at(page, place + 3));
+    let count = page::count_of(l, page);
+    let shape = page::shape_in(l, page);
     let seat = keys::last_at_most(page, shape, count, key);
     let Seat::At(i) = seat else {
         return Next::NoMore;
@@ -230,7 +228,7 @@ fn leaf_answer(l: Layout, page: &[u8], p: Link, sought: Sought, key: u64, pages:
     requires { ⌜ FairLayout l × (length (now page) ≡ 512) × (countsFit l p (now page) ≡ true) × (levelOf l (now page) ≡ 0) ⌝ }
     ensures { λ r. ⌜ r ≡ shown l (answer (scanned sought (keyIn l) key (entries l (now (page .entry)))) pages) ⌝ }
 {
-    let count = page::count_at(page, l.counts);
+    let count = page::count_of(l, page);
     let shape = page::shape_of(l, 0);
     let seat = keys::first_that(page, shape, count, sought, key);
     let Seat::At(i) = seat else {
@@ -273,9 +271,8 @@ fn start_in(l: Layout, page: &[u8], p: Link, key: u64) -> usize
     requires { ⌜ FairLayout l × (length (now page) ≡ 512) × (countsFit l p (now page) ≡ true) ⌝ }
     ensures { λ r. ⌜ (r ≡ start (lastAtMost key (map (keyIn l) (entries l (now (page .entry)))))) × (r ≤ 255) ⌝ }
 {
-    let place = l.counts;
-    let count = page::count_at(page, place);
-    let shape = page::shape_of(l, page::count_at(page, place + 3));
+    let count = page::count_of(l, page);
+    let shape = page::shape_in(l, page);
     keys::start_of(page, shape, count, key)
 }
 
@@ -346,7 +343,7 @@ fn stated_level(image: &[u8], l: Layout, offset: u64) -> usize
         return 0;
     }
     let at = offset as usize;
-    page::count_at(&image[at..at + 512], l.counts + 3)
+    page::level_of(l, &image[at..at + 512])
 }
 
 // The whole-tree check.

@@ -1,6 +1,5 @@
 use mathlib.Core.Path.{_≡_, sym, _∙_}
 use native.Mathlib.Omega.{arith}
-use Rattle.le.specs.Bytes.{byte}
 use Rattle.refusal.proofs.OrderLaws.{goes, ends}
 use Rattle.header.specs.declared.HeaderAnswer.the-variants.{Refused}
 use Rattle.header.specs.Header.{says, headerOf}
@@ -14,9 +13,9 @@ unfolding headerOf
 returns c = sym (ends Refused _ _ _ (sym (c .before .before .before .check-header .ensures) ∙ c .before .verdict .given .1))
 
 returns-2 : tie.Need-returns-2
-unfolding headerOf says byte
+unfolding headerOf says
 returns-2 c =
-    sym (goes Refused _ _ (sym (c .before .before .before .before .before .check-header .ensures) ∙ c .before .before .before .enum-told .given .1) ∙ rw (c .before .before .reference-at .ensures, c .before .reference-at2 .ensures))
+    sym (goes Refused _ _ (sym (c .before .before .before .before .before .check-header .ensures) ∙ c .before .before .before .enum-told .given .1) ∙ rw (c .before .before .reference-at .ensures, c .before .reference-at2 .ensures, c .method-of .ensures))
 
 pub header-of-spec : {M : Type 1} → statement M
 header-of-spec =
@@ -28,5 +27,5 @@ header-of-spec =
     (λ c. search needs)
     (λ c κs. omega (arith, header-length _ (sym (c .before .before .check-header .ensures) ∙ c .enum-told .given .1)))
     (λ c κs. omega (arith, header-length _ (sym (c .before .before .before .check-header .ensures) ∙ c .before .enum-told .given .1)))
-    (λ c. omega (arith, header-length _ (sym (c .before .before .before .before .before .check-header .ensures) ∙ c .before .before .before .enum-told .given .1)))
+    (λ c κs. omega (arith, header-length _ (sym (c .before .before .before .before .check-header .ensures) ∙ c .before .before .enum-told .given .1)))
     returns-2)
