@@ -1,4 +1,5 @@
 pub mod Injective
+pub mod Answered
 pub mod OneOutcome
 pub mod Marked
 pub mod Untouched

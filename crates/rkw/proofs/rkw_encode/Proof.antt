@@ -1,14 +1,18 @@
 use mathlib.Core.Path.{ap, _∙_}
-use Rattle.pst.specs.Outcomes.{codeOutcome, encodeBuffer}
-use Rattle.pst.proofs.Injective.{verdict-injective}
+use Rattle.pst.proofs.Answered.{code-is, encode-buffer-is}
 use Rattle.rkw.specs.Answers.{verdictAnswer}
 use borrow.Author.Needs.{needs}
 use Rattle.rkw.proofs.rkw_encode.Statement.{statement}
 use Rattle.rkw.proofs.rkw_encode.Tie as tie
 
-returns : tie.Need-returns
-unfolding codeOutcome encodeBuffer
-returns c = (c .verdict-answer .ensures ∙ ap verdictAnswer (verdict-injective _ _ (c .before .before .before .encode .ensures .0)), c .before .before .before .encode .ensures .1)
-
 pub rkw-encode-spec : {M : Type 1} → statement M
-rkw-encode-spec = tie.close (tie.spec (λ c κs. search needs) (λ c κs. search needs) (λ c. search needs) returns)
+rkw-encode-spec =
+    tie.close
+    (tie.spec
+    (λ c κs. search needs)
+    (λ c κs. search needs)
+    (λ c. search needs)
+    (λ c. (
+      c .verdict-answer .ensures ∙ ap verdictAnswer (code-is _ _ (c .before .before .before .encode .ensures .0)),
+      c .before .before .before .encode .ensures .1 ∙ encode-buffer-is _ _ _,
+    )))

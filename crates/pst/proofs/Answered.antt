@@ -1,0 +1,117 @@
+-- What upper layers may know of each public call: its outcome fixes the answer, as the layer that makes it says it. Assumes nothing.
+use Prim.Native.Nat.{ℕ}
+use mathlib.Core.Path.{_≡_, refl}
+use mathlib.Core.List.{List}
+use lib.ListN.{length}
+use Rattle.refusal.specs.declared.Verdict.{Verdict}
+use Rattle.crc.specs.Checksum.{checksum}
+use Rattle.coding.specs.Coding.{methodFits, encoded, decoded}
+use Rattle.header.specs.declared.HeaderAnswer.{HeaderAnswer}
+use Rattle.header.specs.Header.{headerOf}
+use Rattle.page.specs.Layout.{nbt, bbt}
+use Rattle.page.specs.Page.{signature}
+use Rattle.tree.specs.declared.FoundNode.{FoundNode}
+use Rattle.tree.specs.declared.FoundBlock.{FoundBlock}
+use Rattle.tree.specs.Tree.{treeFits}
+use Rattle.tree.specs.Answers.{nodeOf, blockOf, nextNodeOf, nextBlockOf}
+use Rattle.block.specs.declared.Sized.{Sized}
+use Rattle.block.specs.Block.{room, testOf, readOf, filledOf}
+use Rattle.node.specs.declared.NodeRead.{NodeRead}
+use Rattle.node.specs.Content.{nodeContent, answerTo, filledBy}
+use Rattle.heap.specs.declared.Span.{Span}
+use Rattle.heap.specs.Shape.{heapTest}
+use Rattle.heap.specs.Items.{itemTest, itemSpan}
+use Rattle.property.specs.declared.Property.{Property}
+use Rattle.property.specs.Lookup.{property}
+use Rattle.pst.specs.Meaning.{verdictMeans, headerMeans, nodeMeans, blockMeans, sizedMeans, dataMeans, spanMeans, propertyMeans}
+use Rattle.pst.specs.Outcomes.{headerOutcome, nodesOutcome, blocksOutcome, nodeOutcome, blockOutcome, nextNodeOutcome, nextBlockOutcome, testOutcome, readOutcome, dataOutcome, codeOutcome, heapOutcome, testItemOutcome, spanOutcome, propertyOutcome, readBuffer, dataBuffer, encodeBuffer, decodeBuffer, checksumOutcome, signatureOutcome, roomOutcome}
+use Rattle.pst.proofs.Injective.{verdict-injective, header-injective, node-injective, block-injective, sized-injective, data-injective, span-injective, property-injective}
+
+pub header-is : (image : List ℕ) (answer : HeaderAnswer) → headerMeans answer ≡ headerOutcome image → answer ≡ headerOf image
+unfolding headerOutcome
+header-is image answer e = header-injective answer _ e
+
+pub nodes-is : (image : List ℕ) (answer : Verdict) → verdictMeans answer ≡ nodesOutcome image → answer ≡ treeFits nbt image
+unfolding nodesOutcome
+nodes-is image answer e = verdict-injective answer _ e
+
+pub blocks-is : (image : List ℕ) (answer : Verdict) → verdictMeans answer ≡ blocksOutcome image → answer ≡ treeFits bbt image
+unfolding blocksOutcome
+blocks-is image answer e = verdict-injective answer _ e
+
+pub node-is : (image : List ℕ) (node : ℕ) (answer : FoundNode) → nodeMeans answer ≡ nodeOutcome image node → answer ≡ nodeOf image node
+unfolding nodeOutcome
+node-is image node answer e = node-injective answer _ e
+
+pub block-is : (image : List ℕ) (block : ℕ) (answer : FoundBlock) → blockMeans answer ≡ blockOutcome image block → answer ≡ blockOf image block
+unfolding blockOutcome
+block-is image block answer e = block-injective answer _ e
+
+pub next-node-is : (image : List ℕ) (from : ℕ) (answer : FoundNode) → nodeMeans answer ≡ nextNodeOutcome image from → answer ≡ nextNodeOf image from
+unfolding nextNodeOutcome
+next-node-is image from answer e = node-injective answer _ e
+
+pub next-block-is : (image : List ℕ) (from : ℕ) (answer : FoundBlock) → blockMeans answer ≡ nextBlockOutcome image from → answer ≡ nextBlockOf image from
+unfolding nextBlockOutcome
+next-block-is image from answer e = block-injective answer _ e
+
+pub test-is : (image : List ℕ) (block : ℕ) (answer : Sized) → sizedMeans answer ≡ testOutcome image block → answer ≡ testOf image block
+unfolding testOutcome
+test-is image block answer e = sized-injective answer _ e
+
+pub read-is : (image : List ℕ) (block : ℕ) (out : List ℕ) (answer : Sized) → sizedMeans answer ≡ readOutcome image block out → answer ≡ readOf image block (length out)
+unfolding readOutcome
+read-is image block out answer e = sized-injective answer _ e
+
+pub data-is : (image : List ℕ) (node : ℕ) (out : List ℕ) (answer : NodeRead) → dataMeans answer ≡ dataOutcome image node out → answer ≡ answerTo (nodeContent image node) (length out)
+unfolding dataOutcome
+data-is image node out answer e = data-injective answer _ e
+
+pub code-is : (method : ℕ) (answer : Verdict) → verdictMeans answer ≡ codeOutcome method → answer ≡ methodFits method
+unfolding codeOutcome
+code-is method answer e = verdict-injective answer _ e
+
+pub heap-is : (block : List ℕ) (answer : Verdict) → verdictMeans answer ≡ heapOutcome block → answer ≡ heapTest block
+unfolding heapOutcome
+heap-is block answer e = verdict-injective answer _ e
+
+pub test-item-is : (block : List ℕ) (item : ℕ) (answer : Verdict) → verdictMeans answer ≡ testItemOutcome block item → answer ≡ itemTest block item
+unfolding testItemOutcome
+test-item-is block item answer e = verdict-injective answer _ e
+
+pub item-is : (block : List ℕ) (item : ℕ) (answer : Span) → spanMeans answer ≡ spanOutcome block item → answer ≡ itemSpan block item
+unfolding spanOutcome
+item-is block item answer e = span-injective answer _ e
+
+pub property-is : (block : List ℕ) (id : ℕ) (answer : Property) → propertyMeans answer ≡ propertyOutcome block id → answer ≡ property block id
+unfolding propertyOutcome
+property-is block id answer e = property-injective answer _ e
+
+-- the buffers at exit, and the calls that answer a number
+pub read-buffer-is : (image : List ℕ) (block : ℕ) (out : List ℕ) → readBuffer image block out ≡ filledOf image block out
+unfolding readBuffer
+read-buffer-is image block out = refl
+
+pub data-buffer-is : (image : List ℕ) (node : ℕ) (out : List ℕ) → dataBuffer image node out ≡ filledBy (nodeContent image node) out
+unfolding dataBuffer
+data-buffer-is image node out = refl
+
+pub encode-buffer-is : (method block : ℕ) (bytes : List ℕ) → encodeBuffer method block bytes ≡ encoded method block bytes
+unfolding encodeBuffer
+encode-buffer-is method block bytes = refl
+
+pub decode-buffer-is : (method block : ℕ) (bytes : List ℕ) → decodeBuffer method block bytes ≡ decoded method block bytes
+unfolding decodeBuffer
+decode-buffer-is method block bytes = refl
+
+pub checksum-is : (bytes : List ℕ) → checksumOutcome bytes ≡ checksum bytes
+unfolding checksumOutcome
+checksum-is bytes = refl
+
+pub signature-is : (offset number : ℕ) → signatureOutcome offset number ≡ signature offset number
+unfolding signatureOutcome
+signature-is offset number = refl
+
+pub room-is : (size : ℕ) → roomOutcome size ≡ room size
+unfolding roomOutcome
+room-is size = refl
