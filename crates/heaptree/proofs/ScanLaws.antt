@@ -30,6 +30,7 @@ use Rattle.heaptree.specs.Sound.{HeapTreeSound}
 use Rattle.heaptree.specs.Scan.{leafRecords, TreeScanHolds}
 use Rattle.heaptree.proofs.RecordLaws.{keyed}
 use Rattle.heaptree.proofs.SoundLaws.{tree-accepted}
+use Rattle.heaptree.proofs.ShownLaws.{none-is}
 use Rattle.heaptree.proofs.StepLaws.{branch-fits}
 
 -- a tree on a heap is a search tree: the keys of an accepted item ascend in its range
@@ -58,8 +59,8 @@ module _ (tree : HeapTree) (block : List ℕ) (root : ℕ) (sound : HeapTreeSoun
   below there = as-scanned (treeOn tree block) (sorted tree block) (indexLevels block root) (rootBranch block root) (tree-accepted tree block root sound there)
 
   answers-by : (key : ℕ) (empty : Bool) → eqb (rootItem block root) 0 ≡ empty → Says (fromRoot tree block root key) (withKey (recordKey tree) key (leafRecords tree block root))
-  unfolding fromRoot leafRecords answer
-  answers-by key true e = rw e (record { count = 0; is = sym (ap (λ o. answer o 0) (missing-exactly (recordKey tree) key [] .1 tt)) })
+  unfolding fromRoot leafRecords
+  answers-by key true e = rw e (record { count = 0; is = none-is 0 ∙ sym (ap (λ o. answer o 0) (missing-exactly (recordKey tree) key [] .1 tt)) })
   answers-by key false e = rw e (record { count = _; is = below (eqb-false (rootItem block root) 0 e) .answers key })
 
   ascending-by : (empty : Bool) → eqb (rootItem block root) 0 ≡ empty → Ascending (map (recordKey tree) (leafRecords tree block root))

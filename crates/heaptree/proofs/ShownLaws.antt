@@ -18,6 +18,20 @@ unfolding counted answer
 counted-answer none n m = refl
 counted-answer (some e) n m = refl
 
+pub none-is : (n : ℕ) → absent n ≡ answer {E = List ℕ} none n
+unfolding answer
+none-is n = refl
+
+-- what a caller makes of an answer that says no entry, or one
+module _ {A : Type 0} (of : List ℕ → A) (missing : A) (refusing : Refusal → A) where
+  pub case-none : (n : ℕ) → byCase of missing refusing (answer none n) ≡ missing
+  unfolding byCase answer
+  case-none n = refl
+
+  pub case-some : (e : List ℕ) (n : ℕ) → byCase of missing refusing (answer (some e) n) ≡ of e
+  unfolding byCase answer
+  case-some e n = refl
+
 module _ (tree : HeapTree) (block : List ℕ) where
   abbrev size : ℕ
   size = tree .key + tree .entry
@@ -31,8 +45,8 @@ module _ (tree : HeapTree) (block : List ℕ) where
   nowhere n o e = record { count = n; is = ap (λ x. answer x n) e }
 
   pub nothing : (n : ℕ) → Shows tree block Absent (absent n)
-  unfolding Shows answer
-  nothing n = record { count = n; is = refl }
+  unfolding Shows
+  nothing n = record { count = n; is = none-is n }
 
   pub wrong : (r : Refusal) → Shows tree block (Refused r) (refused r)
   unfolding Shows
@@ -69,12 +83,10 @@ module _ (tree : HeapTree) (block : List ℕ) where
     -- what a caller makes of it
     module _ {A : Type 0} (of : List ℕ → A) (missing : A) (refusing : Refusal → A) where
       pub read-at : (place : ℕ) → r ≡ At place → of (part block place size) ≡ byCase of missing refusing a
-      unfolding byCase answer
-      read-at place e = sym (ap (byCase of missing refusing) (shown-at place e .1 .is))
+      read-at place e = sym (ap (byCase of missing refusing) (shown-at place e .1 .is) ∙ case-some of missing refusing _ _)
 
       pub read-none : r ≡ Absent → missing ≡ byCase of missing refusing a
-      unfolding byCase answer
-      read-none e = sym (ap (byCase of missing refusing) (shown-none e .is))
+      read-none e = sym (ap (byCase of missing refusing) (shown-none e .is) ∙ case-none of missing refusing _)
 
       pub read-wrong : (f : Refusal) → r ≡ Refused f → refusing f ≡ byCase of missing refusing a
       unfolding byCase
@@ -83,9 +95,8 @@ module _ (tree : HeapTree) (block : List ℕ) where
 -- an answer read as the entry that it says, or none
 module _ {A : Type 0} (of : List ℕ → A) (missing : A) (refusing : Refusal → A) where
   any-count : (o : Option (List ℕ)) (m n : ℕ) → byCase of missing refusing (answer o m) ≡ byCase of missing refusing (answer o n)
-  unfolding byCase answer
-  any-count none m n = refl
-  any-count (some e) m n = refl
+  any-count none m n = case-none of missing refusing m ∙ sym (case-none of missing refusing n)
+  any-count (some e) m n = case-some of missing refusing e m ∙ sym (case-some of missing refusing e n)
 
   pub read-says : (a : Answer (List ℕ)) (o : Option (List ℕ)) → Says a o → byCase of missing refusing a ≡ byCase of missing refusing (answer o 0)
   read-says a o s = ap (byCase of missing refusing) (s .is) ∙ any-count o (s .count) 0

@@ -25,7 +25,7 @@ use Rattle.heaptree.specs.Root.{indexLevels, rootItem}
 use Rattle.heaptree.specs.Branches.{recordsFit, branchRules, treeOn}
 use Rattle.heaptree.specs.Lookup.{rootBranch}
 use Rattle.heaptree.specs.Sound.{keysIn, BranchSound, HeapTreeSound}
-use Rattle.heaptree.proofs.StepLaws.{branch-accepted, branch-numbered, branch-fits}
+use Rattle.heaptree.proofs.StepLaws.{test-rules, branch-accepted, branch-numbered, branch-fits}
 
 module _ (tree : HeapTree) (block : List ℕ) (levels : ℕ) (branch : Branch) where
   sound-of : test (treeOn tree block) levels branch ≡ Accepted → BranchSound tree block levels branch
@@ -56,8 +56,7 @@ module _ (tree : HeapTree) (block : List ℕ) (levels : ℕ) (branch : Branch) w
 
   -- and refused exactly with the first rule that it breaks
   pub branch-refused-exactly : (r : Refusal) → (test (treeOn tree block) levels branch ≡ Refused r) ↔ FirstFault (branchRules tree block levels branch) r
-  unfolding test
-  branch-refused-exactly r = refused-exactly (branchRules tree block levels branch) r
+  branch-refused-exactly r = rw (test-rules tree block levels branch) (refused-exactly (branchRules tree block levels branch) r)
 
 -- a sound tree is accepted
 pub tree-accepted : (tree : HeapTree) (block : List ℕ) (root : ℕ) → HeapTreeSound tree block root → (rootItem block root ≡ 0 → ⊥)

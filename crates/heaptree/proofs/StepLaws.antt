@@ -8,7 +8,7 @@ use borrow.Author.Tests.{eq-eqb, ne-eqb}
 use Rattle.refusal.specs.declared.Refusal.{Refusal}
 use Rattle.refusal.specs.declared.Verdict.{Verdict}
 use Rattle.refusal.specs.declared.Verdict.the-variants.{Accepted, Refused}
-use Rattle.refusal.specs.Order.{AllHold, none, both, here, later}
+use Rattle.refusal.specs.Order.{inOrder, AllHold, none, both, here, later}
 use Rattle.refusal.proofs.OrderLaws.{goes, ends, accepted-exactly, refused-exactly}
 use Rattle.le.specs.Bytes.{byte, field}
 use Rattle.keys.specs.declared.End.the-variants.{Open}
@@ -36,19 +36,23 @@ use Rattle.heaptree.proofs.RecordLaws.{shape-leaf, shape-index}
 
 -- the test of an item, one rule at a time
 module _ (tree : HeapTree) (block : List ℕ) (levels : ℕ) (branch : Branch) where
+  pub test-rules : test (treeOn tree block) levels branch ≡ inOrder (branchRules tree block levels branch)
+  unfolding test
+  test-rules = refl
+
   pub branch-number : itemFits block (branch .item) ≡ false → test (treeOn tree block) levels branch ≡ Refused badItem
-  unfolding test branchRules
-  branch-number n = refused-exactly (branchRules tree block levels branch) badItem .1 (here n)
+  unfolding branchRules
+  branch-number n = test-rules ∙ refused-exactly (branchRules tree block levels branch) badItem .1 (here n)
 
   pub branch-records : itemFits block (branch .item) ≡ true → recordsFit (shapeAt tree levels) (branch .range) (itemPart block (branch .item)) ≡ false
       → test (treeOn tree block) levels branch ≡ Refused (badTree tree)
-  unfolding test branchRules
-  branch-records n f = refused-exactly (branchRules tree block levels branch) (badTree tree) .1 (later n (here f))
+  unfolding branchRules
+  branch-records n f = test-rules ∙ refused-exactly (branchRules tree block levels branch) (badTree tree) .1 (later n (here f))
 
   pub branch-accepted : itemFits block (branch .item) ≡ true → recordsFit (shapeAt tree levels) (branch .range) (itemPart block (branch .item)) ≡ true
       → test (treeOn tree block) levels branch ≡ Accepted
-  unfolding test branchRules
-  branch-accepted n f = accepted-exactly (branchRules tree block levels branch) .1 (both n (both f none))
+  unfolding branchRules
+  branch-accepted n f = test-rules ∙ accepted-exactly (branchRules tree block levels branch) .1 (both n (both f none))
 
   -- what an accepted item says
   branch-both : AllHold (branchRules tree block levels branch)
@@ -57,12 +61,10 @@ module _ (tree : HeapTree) (block : List ℕ) (levels : ℕ) (branch : Branch) w
   branch-both (both n (both f none)) = (n, f)
 
   pub branch-numbered : test (treeOn tree block) levels branch ≡ Accepted → Numbered block (branch .item)
-  unfolding test
-  branch-numbered e = number-exactly block (branch .item) .0 (branch-both (accepted-exactly (branchRules tree block levels branch) .0 e) .0)
+  branch-numbered e = number-exactly block (branch .item) .0 (branch-both (accepted-exactly (branchRules tree block levels branch) .0 (sym test-rules ∙ e)) .0)
 
   pub branch-fits : test (treeOn tree block) levels branch ≡ Accepted → recordsFit (shapeAt tree levels) (branch .range) (itemPart block (branch .item)) ≡ true
-  unfolding test
-  branch-fits e = branch-both (accepted-exactly (branchRules tree block levels branch) .0 e) .1
+  branch-fits e = branch-both (accepted-exactly (branchRules tree block levels branch) .0 (sym test-rules ∙ e)) .1
 
 -- what an item holds, by its test, and the other way round
 module _ (tree : HeapTree) (block : List ℕ) (levels : ℕ) (branch : Branch) where

@@ -18,9 +18,8 @@ use Rattle.keys.proofs.FoundLaws.{missing-exactly}
 use Rattle.search.specs.Answer.{answer}
 use Rattle.heap.specs.Shape.{userRoot}
 use Rattle.heap.specs.Items.{itemFits, badItem}
-use Rattle.heaptree.specs.Lookup.{byCase}
 use Rattle.heaptree.specs.Scan.{TreeAsScanned}
-use Rattle.heaptree.proofs.ShownLaws.{read-says}
+use Rattle.heaptree.proofs.ShownLaws.{read-says, case-none, case-some}
 use Rattle.heaptree.proofs.ScanLaws.{scan-holds as tree-holds}
 use Rattle.property.specs.declared.Property.{Property}
 use Rattle.property.specs.declared.Property.the-variants.{Number, Empty, Item, Subnode, Absent, Refused}
@@ -58,18 +57,22 @@ module _ (type value : ℕ) where
       let ends = sym (test-ends Refused false badItem (Item type value) refl) ∙ e in
       (refl, refl, cc)
 
+-- what a leaf record says
+abbrev told : List ℕ → List ℕ → Property
+told block entry = valueOf block (field entry 2 2) (field entry 4 4)
+
 module _ (block : List ℕ) where
   answer-there : (o : Option (List ℕ)) (n : ℕ) → propertyFrom block (answer o n) ≡ Absent → o ≡ none
-  unfolding answer byCase valueOf
+  unfolding valueOf
   answer-there none n e = refl
   answer-there (some entry) n e =
-      absurd (outcome-there (field entry 2 2) (field entry 4 4) (inPlace (field entry 2 2)) (eqb (field entry 4 4) 0) (eqb (field entry 4 4 % 32) 0) (itemFits block (field entry 4 4)) e)
+      absurd (outcome-there (field entry 2 2) (field entry 4 4) (inPlace (field entry 2 2)) (eqb (field entry 4 4) 0) (eqb (field entry 4 4 % 32) 0) (itemFits block (field entry 4 4)) (sym (case-some (told block) Absent Refused entry n) ∙ e))
 
   answer-refused : (id : ℕ) (r : Refusal) (o : Option (List ℕ)) (n : ℕ) → withKey idOf id (propertyRecords block) ≡ o → propertyFrom block (answer o n) ≡ Refused r → WrongValue block id r
-  unfolding answer byCase valueOf
-  answer-refused id r none n f e = let clash : _≡_ {A = ℕ} 0 1 = cc in absurd (omega arith)
+  unfolding valueOf
+  answer-refused id r none n f e = let none-there = case-none (told block) Absent Refused n in let clash : _≡_ {A = ℕ} 0 1 = cc in absurd (omega arith)
   answer-refused id r (some entry) n f e =
-      let wrong = outcome-refused (field entry 2 2) (field entry 4 4) (inPlace (field entry 2 2)) (eqb (field entry 4 4) 0) (eqb (field entry 4 4 % 32) 0) (itemFits block (field entry 4 4)) r e in
+      let wrong = outcome-refused (field entry 2 2) (field entry 4 4) (inPlace (field entry 2 2)) (eqb (field entry 4 4) 0) (eqb (field entry 4 4 % 32) 0) (itemFits block (field entry 4 4)) r (sym (case-some (told block) Absent Refused entry n) ∙ e) in
       record { entry = entry; found = f; names = eqb-true _ _ (wrong .0); wrong = wrong .1; number = wrong .2 }
 
 -- the tree's theorem, read as properties
@@ -83,10 +86,9 @@ module _ (block : List ℕ) (sound : PropertiesSound block) where
       ∙ read-says _ _ _ _ _ (tree .answers id)
 
   scan-absent : (id : ℕ) → (property block id ≡ Absent) ↔ Missing id (map idOf (propertyRecords block))
-  unfolding answer byCase
   scan-absent id = (
     (λ e. missing-exactly idOf id (propertyRecords block) .0 (answer-there block (withKey idOf id (propertyRecords block)) 0 (sym (scan-answers id) ∙ e))),
-    (λ m. scan-answers id ∙ ap (λ o. propertyFrom block (answer o 0)) (missing-exactly idOf id (propertyRecords block) .1 m)),
+    (λ m. scan-answers id ∙ ap (λ o. propertyFrom block (answer o 0)) (missing-exactly idOf id (propertyRecords block) .1 m) ∙ case-none (told block) Absent Refused 0),
   )
 
 -- the theorem: a lookup in a sound tree answers as the plain scan does
