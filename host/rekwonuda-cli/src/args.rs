@@ -84,12 +84,18 @@ pub struct NodeArguments {
     /// The number of the node, as 290 or 0x122
     #[arg(value_name = "NID", value_parser = node_number)]
     pub node: u32,
-    /// Write the data to this file
+    /// Write the data to this file; - is standard output
     ///
-    /// It is written once all of the data is read and accepted. Without it the data goes to standard
+    /// It is written once all of the data is read and accepted: to a temporary file beside it, which
+    /// then takes its name. It is never the file that is read. Without it the data goes to standard
     /// output, or a preview where that is a terminal.
     #[arg(short, long, value_name = "OUT")]
     pub output: Option<PathBuf>,
+    /// Replace OUT where it is there already
+    ///
+    /// Where OUT is a link, the link is replaced, and not what it points to.
+    #[arg(long)]
+    pub force: bool,
 }
 
 #[derive(Args)]

@@ -19,6 +19,7 @@ mod tree;
 mod users;
 mod walk;
 mod words;
+mod write;
 
 use args::{Arguments, Command};
 use check::Way;

@@ -5,8 +5,8 @@ use crate::outcome::{At, Failure, Outcome};
 use crate::output::Output;
 use crate::source::Source;
 use crate::words::{counted, hex, spaced_hex};
+use crate::write::Target;
 use rekwonuda::{Node, NodeId};
-use std::fs;
 use std::io::{stdout, IsTerminal};
 use std::path::Path;
 
@@ -18,14 +18,20 @@ pub fn node(
     arguments: &NodeArguments,
     out: &mut Output<'_>,
 ) -> Result<Outcome, Failure> {
+    let output = arguments.output.as_deref();
+    let file = output.filter(|path| !names::is_standard(path));
+    let target = file
+        .map(|path| Target::new(path, source.identity(), arguments.force))
+        .transpose()?;
     out.fact("node", arguments.node)?;
     let (_, data) = read(source, arguments.node)?;
     out.fact("length", data.len())?;
-    if let Some(path) = &arguments.output {
-        write_to(path, &data, out)?;
+    if let (Some(path), Some(target)) = (file, target) {
+        target.write(&data)?;
+        told(path, &data, out)?;
     } else if out.is_json() {
         out.fact("data", hex(&data))?;
-    } else if stdout().is_terminal() {
+    } else if output.is_none() && stdout().is_terminal() {
         preview(&data, out)?;
     } else {
         out.bytes(&data)?;
@@ -48,12 +54,9 @@ pub fn read(source: &Source, number: u32) -> Result<(Node, Vec<u8>), Failure> {
     Ok((node, data.ok_or_else(absent)?))
 }
 
-fn write_to(path: &Path, data: &[u8], out: &mut Output<'_>) -> Result<(), Failure> {
-    let name = names::shown(path);
-    fs::write(path, data)
-        .map_err(|error| Failure::Error(format!("cannot write {name}: {error}")))?;
+fn told(path: &Path, data: &[u8], out: &mut Output<'_>) -> Result<(), Failure> {
     let length = counted(data.len() as u64, "byte");
-    out.line(format!("{length} written to {name}"))?;
+    out.line(format!("{length} written to {}", names::shown(path)))?;
     out.name("output", path)
 }
 

@@ -2,9 +2,10 @@ use crate::names;
 use crate::outcome::Failure;
 use rekwonuda::{Image, LONGEST_IMAGE};
 use std::fmt::Display;
-use std::fs::File;
+use std::fs::{File, Metadata};
 use std::io::{self, Read};
 use std::os::fd::AsFd;
+use std::os::unix::fs::MetadataExt;
 use std::path::{Path, PathBuf};
 
 /// By how much room grows for a stream, whose length is not known beforehand.
@@ -19,6 +20,17 @@ pub struct Source {
     /// How many bytes it has; `None` for a stream that is too long to be read to its end.
     pub size: Option<u64>,
     bytes: Vec<u8>,
+    identity: Identity,
+}
+
+/// What a file is, whatever name it goes by: its device and its number there.
+#[derive(Clone, Copy, PartialEq, Eq)]
+pub struct Identity(u64, u64);
+
+impl Identity {
+    pub fn of(metadata: &Metadata) -> Identity {
+        Identity(metadata.dev(), metadata.ino())
+    }
 }
 
 impl Source {
@@ -40,11 +52,16 @@ impl Source {
             path: path.to_path_buf(),
             size,
             bytes,
+            identity: Identity::of(&metadata),
         })
     }
 
     pub fn image(&self) -> Image<'_> {
         Image::new(&self.bytes)
+    }
+
+    pub fn identity(&self) -> Identity {
+        self.identity
     }
 
     pub fn is_too_long(&self) -> bool {

@@ -74,6 +74,7 @@ fn standard_error_may_be_full_or_closed() {
         ("info bad.pst", 1),
         ("node in.pst 0x20", 3),
         ("props in.pst 0x200284", 4),
+        ("node in.pst 0x21 -o in.pst", 2),
         ("check in.pst", 0),
     ] {
         for sink in ["2>/dev/full", "2>&-", ">&- 2>&-"] {
