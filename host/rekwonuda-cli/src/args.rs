@@ -1,4 +1,5 @@
 use clap::{Args, Parser, Subcommand};
+use std::num::NonZeroUsize;
 use std::path::PathBuf;
 
 const ABOUT: &str = "Checks and reads Outlook .pst files, and takes nothing in them on trust";
@@ -19,12 +20,12 @@ It may have up to 1 GiB. A FILE of - is standard input.
 
 Numbers are decimal, or hexadecimal after 0x, without a sign.
 
-With --json the answer is one object on one line; docs/JSON.md describes it.
+With --json the answer is one object on one line, for several files one line each; docs/JSON.md describes it.
 
 ";
 
 fn long_notes() -> String {
-    format!("{NOTES}{STATUS}")
+    format!("{NOTES}{STATUS}\n\nOf several files the worst counts, in the order 0, 3, 4, 1, 2.")
 }
 
 /// What the user asked for.
@@ -45,10 +46,11 @@ pub struct Arguments {
 
 #[derive(Subcommand)]
 pub enum Command {
-    /// Check a file
+    /// Check a file, or every .pst file of a folder
     ///
     /// Five stages: the header, both trees, every listed block, and the data of every node, up to the
-    /// first refusal. Not looked at are subnodes, and heaps in the data.
+    /// first refusal. Not looked at are subnodes, and heaps in the data. Of several files, or of a
+    /// folder, it gives one line each and a summary.
     Check(CheckArguments),
     /// Say what the file is: its size, encoding method, trees and their counts
     Info(FileArgument),
@@ -64,11 +66,20 @@ pub enum Command {
 
 #[derive(Args)]
 pub struct CheckArguments {
-    /// The .pst file, or - for standard input
-    pub file: PathBuf,
+    /// .pst files, folders, or - for standard input
+    ///
+    /// Folders are searched for names that end in .pst, in capitals or not, with all folders in them.
+    /// Links to folders are not followed.
+    #[arg(value_name = "FILE|FOLDER", required = true)]
+    pub paths: Vec<PathBuf>,
     /// Go on past the first refusal and list every block and node that is refused
     #[arg(long)]
     pub all: bool,
+    /// How many files to check at once; without it, one for each processor
+    ///
+    /// Each is held in memory while it is checked.
+    #[arg(long, value_name = "N", value_parser = jobs)]
+    pub jobs: Option<NonZeroUsize>,
 }
 
 #[derive(Args)]
@@ -129,6 +140,12 @@ fn node_number(text: &str) -> Result<u32, String> {
         .ok_or_else(|| "a node number is decimal or 0x with hexadecimal, under 2^32".to_string())
 }
 
+fn jobs(text: &str) -> Result<NonZeroUsize, String> {
+    number(text, 10)
+        .and_then(|jobs| NonZeroUsize::new(jobs as usize))
+        .ok_or_else(|| "it is a number from 1 on".to_string())
+}
+
 /// A number of digits alone; the standard library would take a sign too.
 fn number(digits: &str, radix: u32) -> Option<u32> {
     let plain = digits.chars().all(|digit| digit.is_digit(radix));
@@ -153,6 +170,14 @@ mod tests {
         let wrong = ["", "0x", "-1", "+1", "0x+1", "0x-1", "122h", " 1"];
         for wrong in wrong.iter().chain(&["0x100000000", "4294967296"]) {
             assert!(node_number(wrong).is_err(), "{wrong}");
+        }
+    }
+
+    #[test]
+    fn jobs_are_counted_from_1() {
+        assert_eq!(jobs("3"), Ok(NonZeroUsize::MIN.saturating_add(2)));
+        for wrong in ["0", "+2", "-1", "", "0x2", "two"] {
+            assert!(jobs(wrong).is_err(), "{wrong}");
         }
     }
 }

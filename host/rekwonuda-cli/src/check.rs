@@ -12,7 +12,7 @@ use rekwonuda::{Block, BlockId, Refusal};
 use serde_json::{json, Map, Value};
 
 /// What no stage looks at.
-const NOT_LOOKED_AT: [&str; 2] = ["subnodes", "heaps"];
+pub const NOT_LOOKED_AT: [&str; 2] = ["subnodes", "heaps"];
 
 /// So many refused blocks are held at once, until the nodes that use them are found.
 const MOST_HELD: usize = 1 << 16;
@@ -359,6 +359,16 @@ impl Report {
     fn left(&self) -> Vec<&'static str> {
         let stages = STAGES.iter().skip(self.stages.len());
         stages.copied().chain(NOT_LOOKED_AT).collect()
+    }
+
+    /// What is refused, in one line; none where all is accepted.
+    pub fn line(&self, way: Way) -> Option<String> {
+        if !way.all {
+            return self.decisive.as_ref().map(Account::line);
+        }
+        let refused = self.stages.iter().filter(|stage| stage.outcome.is_some());
+        let verdicts: Vec<String> = refused.map(Stage::verdict).collect();
+        (!verdicts.is_empty()).then(|| verdicts.join("; "))
     }
 
     /// What was looked at with what outcome, and what was not.

@@ -7,6 +7,7 @@ mod args;
 mod check;
 mod info;
 mod list;
+mod many;
 mod names;
 mod node;
 mod outcome;
@@ -14,6 +15,7 @@ mod output;
 mod place;
 mod progress;
 mod props;
+mod search;
 mod source;
 mod tree;
 mod users;
@@ -48,7 +50,8 @@ fn answer(arguments: &Arguments) -> Outcome {
     };
     let command = &arguments.command;
     let path = match command {
-        Command::Check(check) => &check.file,
+        Command::Check(check) if many::is_many(check) => return many::check_many(check, form),
+        Command::Check(check) => &check.paths[0],
         Command::Info(file) | Command::Nodes(file) | Command::Blocks(file) => &file.file,
         Command::Node(node) => &node.file,
         Command::Props(props) => &props.file,

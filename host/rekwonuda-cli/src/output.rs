@@ -16,6 +16,8 @@ pub enum Form {
     Text,
     /// One JSON object on one line.
     Json,
+    /// Nothing: somebody else says what came out.
+    Silent,
 }
 
 /// Where an answer goes, as it comes.

@@ -152,7 +152,12 @@ fn answers_have_the_shape_of_the_page() {
 #[test]
 fn failures_have_the_shape_of_the_page() {
     let shapes = Shapes::read();
-    for words in [&["--json"][..], &["--json", "mend"], &["check", "--json"]] {
+    for words in [
+        &["--json"][..],
+        &["--json", "mend"],
+        &["check", "--json"],
+        &["check", "x", "--jobs", "+1", "--json"],
+    ] {
         let answer = shapes.hold_run(&self::words(words));
         assert_eq!(
             (&answer["command"], &answer["outcome"]),
@@ -194,6 +199,9 @@ fn names_that_are_no_text_can_be_recovered() {
         let answer = shapes.hold_run(&run(words, &path, &[]));
         assert_eq!(hex(&answer, "file_hex"), path.to_string_lossy());
     }
+    let several = run(&["check", "--json"], &folder, &[]);
+    shapes.hold_run(&several);
+    assert!(several.text.contains("file_hex") && !several.text.contains('\x1b'));
     let out = folder.join(OsStr::from_bytes(b"\xFE"));
     let mut command = crate::runs::command(&["node", "--json"], &office(), &["0x21", "-o"]);
     let answer: Value =

@@ -6,6 +6,7 @@ mod damaged;
 mod images;
 mod json;
 mod lists;
+mod many;
 mod node;
 mod props;
 mod runs;

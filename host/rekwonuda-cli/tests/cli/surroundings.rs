@@ -24,6 +24,10 @@ fn wrong_usage_has_status_2() {
         let told = "a node number is decimal or 0x";
         assert!(run.errors.contains(told), "{}", run.errors);
     }
+    for wrong in ["0", "+1", "-1", "x"] {
+        let run = run(&["check"], &sample(), &[&format!("--jobs={wrong}")]);
+        assert_eq!(run.status, 2, "{wrong}");
+    }
 }
 
 #[test]
@@ -43,10 +47,13 @@ fn a_reader_that_stops_reading_is_no_panic() {
         ..Plan::default()
     };
     let path = file("unread.pst", &build(3, &plan).image);
-    let lists: [(&[&str], &[&str]); 3] = [
+    let several = [path.to_str().unwrap(); 3];
+    let lists: [(&[&str], &[&str]); 5] = [
         (&["nodes"], &[]),
         (&["nodes", "--json"], &[]),
         (&["check"], &[]),
+        (&["check"], &several),
+        (&["check", "--json"], &several),
     ];
     for (words, rest) in lists {
         let mut child = command(words, &path, rest)
@@ -75,6 +82,7 @@ fn standard_error_may_be_full_or_closed() {
         ("node in.pst 0x20", 3),
         ("props in.pst 0x200284", 4),
         ("node in.pst 0x21 -o in.pst", 2),
+        ("check none.pst bad.pst", 2),
         ("check in.pst", 0),
     ] {
         for sink in ["2>/dev/full", "2>&-", ">&- 2>&-"] {
@@ -97,6 +105,12 @@ fn standard_output_that_is_full_has_status_2() {
         let told = "cannot write to standard output: No space left";
         assert!(run.errors.contains(told), "{words}: {}", run.errors);
     }
+    let several = run_in(
+        Path::new("."),
+        &format!("./rekwonuda check {named} {named} >/dev/full"),
+    );
+    assert_eq!(several.status, 2);
+    assert!(several.errors.contains("No space left"));
     assert_eq!(
         run_in(Path::new("."), "./rekwonuda --help >/dev/full").status,
         2
@@ -111,6 +125,7 @@ fn names_are_shown_without_what_would_steer_a_terminal() {
     let shown = "a\\u{1b}[31m\\n\\xff.pst";
     for run in [
         run(&["info"], &path, &[]),
+        run(&["check"], &folder, &[]),
         run(&["check"], &path.with_extension("none"), &[]),
         run(&["node"], &path, &["0x7777777", "-o", "\x1b/x"]),
         words(&["\x1b[31m"]),
@@ -119,6 +134,7 @@ fn names_are_shown_without_what_would_steer_a_terminal() {
         assert!(!all.contains('\x1b'), "{all}");
     }
     assert!(run(&["info"], &path, &[]).text.contains(shown));
+    assert!(run(&["check"], &folder, &[]).text.contains(shown));
 }
 
 #[test]
@@ -137,6 +153,7 @@ fn help_is_short_or_long_and_tells_the_exit_statuses() {
         }
     }
     assert!(long.says("a file that changes under a mapping is outside what is proved"));
+    assert!(long.says("in the order 0, 3, 4, 1, 2"));
     assert!(short.text.len() < long.text.len());
     for command in ["check", "node"] {
         let [short, long] = ["-h", "--help"].map(|word| words(&[command, word]));

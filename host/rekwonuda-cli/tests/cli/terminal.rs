@@ -1,6 +1,6 @@
 //! The command line in a terminal: `script` makes one, and `stty` gives it its width.
 
-use crate::runs::{file, office, run, run_in, PROGRAM};
+use crate::runs::{file, folder, office, run, run_in, PROGRAM};
 use crate::screen::Screen;
 use model::build::{build, Plan};
 use std::fs;
@@ -42,6 +42,24 @@ fn progress_leaves_nothing_behind_in_any_width() {
         assert_eq!(screens[0].lines(), screens[1].lines(), "{width}");
     }
     fs::remove_file(path).unwrap();
+}
+
+#[test]
+fn progress_over_many_files_leaves_nothing_behind() {
+    let folder = folder("many_shown");
+    for at in 0..40 {
+        fs::copy(office(), folder.join(format!("{at}.pst"))).unwrap();
+    }
+    for width in [20, 80] {
+        let mut screen = Screen::new(width);
+        screen.show(&sent(width, &format!("check {}", folder.display())));
+        let lines = screen.lines().concat();
+        assert_eq!(lines.matches("accepted     ").count(), 40, "{lines}");
+        assert!(
+            !lines.contains("checking") && lines.contains("40 files"),
+            "{lines}"
+        );
+    }
 }
 
 #[test]

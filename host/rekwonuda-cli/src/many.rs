@@ -1,0 +1,214 @@
+//! A check of many files, some of them at once.
+
+use crate::args::CheckArguments;
+use crate::check::{check, Way, NOT_LOOKED_AT};
+use crate::names::{self, is_standard};
+use crate::outcome::{Failure, Outcome};
+use crate::output::{Form, Output};
+use crate::progress;
+use crate::search::{search, Found};
+use crate::source::{cannot_read, shown_name, Source};
+use crate::words::counted;
+use indicatif::{HumanCount, ProgressBar};
+use rayon::iter::{ParallelBridge, ParallelIterator};
+use rayon::ThreadPoolBuilder;
+use serde_json::json;
+use std::io::{self, Write};
+use std::path::Path;
+use std::sync::{Mutex, PoisonError};
+use std::thread::available_parallelism;
+
+/// The outcomes that are counted, and what a file of each is called.
+const COUNTED: [(Outcome, &str); 5] = [
+    (Outcome::Accepted, "accepted"),
+    (Outcome::Damaged, "damaged"),
+    (Outcome::NotCovered, "not covered"),
+    (Outcome::Error, "unreadable"),
+    (Outcome::Absent, "absent"),
+];
+
+/// Whether the arguments ask for more than the report of one file.
+pub fn is_many(arguments: &CheckArguments) -> bool {
+    match arguments.paths.as_slice() {
+        [path] => path.is_dir() && !is_standard(path),
+        _ => true,
+    }
+}
+
+/// Checks every file, and says how the worst of them ends.
+pub fn check_many(arguments: &CheckArguments, form: Form) -> Outcome {
+    try_check_many(arguments, form).unwrap_or_else(|failure| {
+        let out = Output::standard(form, Some("check"));
+        out.map_or(Outcome::Error, |out| out.finish(None, Err(failure)))
+    })
+}
+
+fn try_check_many(arguments: &CheckArguments, form: Form) -> Result<Outcome, Failure> {
+    let standard = arguments.paths.iter().filter(|path| is_standard(path));
+    if standard.count() > 1 {
+        let message = "standard input can be read once, and is named more often";
+        return Err(Failure::Error(message.to_string()));
+    }
+    let found = search(&arguments.paths);
+    let jobs = arguments.jobs.or_else(|| available_parallelism().ok());
+    let threads = jobs.map_or(1, usize::from).min(found.len());
+    let pool = ThreadPoolBuilder::new().num_threads(threads).build();
+    let pool = pool.map_err(|error| Failure::Error(format!("cannot start: {error}")))?;
+    let way = Way {
+        all: arguments.all,
+        progress: false,
+    };
+    let teller = Mutex::new(Teller::new(found.len() as u64));
+    let lock = || teller.lock().unwrap_or_else(PoisonError::into_inner);
+    pool.install(|| {
+        found.into_iter().par_bridge().for_each(|found| {
+            if lock().unwritten.is_none() {
+                let line = Line::new(&found, way, form);
+                lock().tell(&line);
+            }
+        });
+    });
+    let teller = teller.into_inner().unwrap_or_else(PoisonError::into_inner);
+    teller.end(form)
+}
+
+/// The answer for one file.
+struct Line {
+    outcome: Outcome,
+    bytes: Vec<u8>,
+}
+
+impl Line {
+    fn new(found: &Found, way: Way, form: Form) -> Line {
+        match form {
+            Form::Json => Line::json(found, way),
+            _ => Line::text(found, way),
+        }
+    }
+
+    fn text(found: &Found, way: Way) -> Line {
+        let unreadable = |why: String| (Outcome::Error, Some(why));
+        let (path, (outcome, told)) = match found {
+            Found::File(path) => match Source::read(path) {
+                Ok(source) => (path, silently(&source, way)),
+                Err(error) => (path, unreadable(error.to_string())),
+            },
+            Found::Unreadable(path, why) => (path, unreadable(why.clone())),
+            Found::Empty(path) => {
+                let why = "no .pst file in this folder".to_string();
+                (path, (Outcome::Absent, Some(why)))
+            }
+        };
+        let told = told.map_or(String::new(), |told| format!(": {told}"));
+        let line = format!("{:<12} {}{told}\n", word(outcome), shown_name(path));
+        Line {
+            outcome,
+            bytes: line.into_bytes(),
+        }
+    }
+
+    fn json(found: &Found, way: Way) -> Line {
+        let mut bytes = Vec::new();
+        let outcome = match found {
+            Found::File(path) => match Source::read(path) {
+                Ok(source) => in_json(path, Ok(&source), way, &mut bytes),
+                Err(error) => in_json(path, Err(cannot_read(path, error)), way, &mut bytes),
+            },
+            Found::Unreadable(path, why) => {
+                in_json(path, Err(cannot_read(path, why)), way, &mut bytes)
+            }
+            Found::Empty(path) => {
+                let message = format!("no .pst file in {}", names::shown(path));
+                in_json(path, Err(Failure::Absent(message)), way, &mut bytes)
+            }
+        };
+        let outcome = outcome.unwrap_or(Outcome::Error);
+        Line { outcome, bytes }
+    }
+}
+
+/// How the check of a file ends, and what is told of it.
+fn silently(source: &Source, way: Way) -> (Outcome, Option<String>) {
+    let report = Output::new(Form::Silent, io::sink(), None)
+        .and_then(|mut out| check(source, way, &mut out));
+    match report {
+        Ok(report) => (report.outcome, report.line(way)),
+        Err(_) => (Outcome::Error, None),
+    }
+}
+
+fn in_json(
+    path: &Path,
+    source: Result<&Source, Failure>,
+    way: Way,
+    bytes: &mut Vec<u8>,
+) -> Result<Outcome, Failure> {
+    let mut out = Output::new(Form::Json, bytes, Some("check"))?;
+    out.name("file", path)?;
+    let read = source.as_ref().ok().copied();
+    let result = match source {
+        Ok(source) => check(source, way, &mut out).map(|report| report.outcome),
+        Err(failure) => Err(failure),
+    };
+    Ok(out.finish(read, result))
+}
+
+/// Says what came out of each file as it ends, and counts.
+struct Teller {
+    counts: [u64; COUNTED.len()],
+    worst: Outcome,
+    bar: ProgressBar,
+    /// Why standard output can no longer be written.
+    unwritten: Option<Failure>,
+}
+
+impl Teller {
+    fn new(files: u64) -> Teller {
+        Teller {
+            counts: [0; COUNTED.len()],
+            worst: Outcome::Accepted,
+            bar: progress::bar(true, files, "checking files"),
+            unwritten: None,
+        }
+    }
+
+    fn tell(&mut self, line: &Line) {
+        self.worst = self.worst.max(line.outcome);
+        for (count, (outcome, _)) in self.counts.iter_mut().zip(COUNTED) {
+            *count += u64::from(outcome == line.outcome);
+        }
+        let written = self.bar.suspend(|| {
+            let mut out = io::stdout().lock();
+            out.write_all(&line.bytes)?;
+            out.flush()
+        });
+        self.bar.inc(1);
+        self.unwritten = written.err().map(Failure::from);
+    }
+
+    fn end(self, form: Form) -> Result<Outcome, Failure> {
+        self.bar.finish_and_clear();
+        if let Some(failure) = self.unwritten {
+            return Err(failure);
+        }
+        let files: u64 = self.counts.iter().sum();
+        let mut out = Output::standard(form, Some("check"))?;
+        let mut summary = json!({ "files": files });
+        let mut parts = Vec::new();
+        for (count, (_, word)) in self.counts.iter().zip(COUNTED) {
+            summary[word.replace(' ', "_")] = (*count).into();
+            parts.push(format!("{} {word}", HumanCount(*count)));
+        }
+        out.fact("summary", summary)?;
+        out.fact("not_looked_at", NOT_LOOKED_AT.to_vec())?;
+        let (files, counts) = (counted(files, "file"), parts.join(", "));
+        let left = NOT_LOOKED_AT.join(", ");
+        out.line(format!("\n{files}: {counts}; not looked at: {left}"))?;
+        Ok(out.finish(None, Ok(self.worst)))
+    }
+}
+
+fn word(outcome: Outcome) -> &'static str {
+    let counted = COUNTED.iter().find(|(other, _)| *other == outcome);
+    counted.map_or(outcome.word(), |(_, word)| word)
+}
