@@ -2,25 +2,19 @@ use crate::account::{Account, Spot};
 use crate::outcome::{Failure, Outcome};
 use crate::output::Output;
 use crate::progress;
+use crate::report::{Report, Stage, Tally, STAGES};
 use crate::source::Source;
 use crate::tree::{Met, Tree};
 use crate::users::users;
 use crate::walk;
-use crate::words::counted;
-use indicatif::{HumanCount, ProgressBar};
+use indicatif::ProgressBar;
 use rekwonuda::{Block, BlockId, Refusal};
-use serde_json::{json, Map, Value};
+use serde_json::json;
+use std::collections::HashMap;
 
-/// What no stage looks at.
-pub const NOT_LOOKED_AT: [&str; 2] = ["subnodes", "heaps"];
-
-/// So many refused blocks are held at once, until the nodes that use them are found.
+/// So many refused blocks are held at once, until the nodes that use them are found; and of so many
+/// data trees it is remembered what a read of them gave.
 const MOST_HELD: usize = 1 << 16;
-
-const STAGES: [&str; 5] = ["header", "node tree", "block tree", "blocks", "node data"];
-
-const GOES_ON: &str =
-    "`check --all` goes on from here and lists every block and node that is refused.\n";
 
 /// How a file is checked.
 #[derive(Clone, Copy, Debug)]
@@ -29,25 +23,6 @@ pub struct Way {
     pub all: bool,
     /// Whether to show how far it has come.
     pub progress: bool,
-}
-
-/// What came out of a check.
-pub struct Report {
-    pub outcome: Outcome,
-    stages: Vec<Stage>,
-    /// The refusal that decides the outcome.
-    decisive: Option<Account>,
-}
-
-/// What came out of a stage.
-#[derive(Default)]
-struct Stage {
-    name: &'static str,
-    outcome: Option<Outcome>,
-    /// How many of what it looks at are refused, as a reader is told.
-    refused: Option<String>,
-    text: String,
-    facts: Map<String, Value>,
 }
 
 struct Check<'a, 'b> {
@@ -78,7 +53,7 @@ pub fn check(source: &Source, way: Way, out: &mut Output<'_>) -> Result<Report, 
         bar: ProgressBar::hidden(),
     };
     check.run()?;
-    let report = check.report();
+    let report = Report::new(check.stages, check.decisive);
     report.tell(way, out)?;
     Ok(report)
 }
@@ -109,17 +84,6 @@ impl Check<'_, '_> {
         Ok(())
     }
 
-    fn report(self) -> Report {
-        let decisive = self.decisive;
-        Report {
-            outcome: decisive
-                .as_ref()
-                .map_or(Outcome::Accepted, |account| account.outcome),
-            stages: self.stages,
-            decisive,
-        }
-    }
-
     /// Notes a refusal, and says whether the stage ends here.
     fn refuse(&mut self, refusal: Refusal, spot: &Spot) -> Result<bool, Failure> {
         let account = Account::new(self.source, refusal, spot);
@@ -134,7 +98,7 @@ impl Check<'_, '_> {
         if self.decisive.as_ref().map(|other| other.outcome) < Some(outcome) {
             self.decisive = Some(account);
         }
-        Ok(!self.way.all && outcome == Outcome::Damaged)
+        Ok(self.broke_off())
     }
 
     /// Writes a line while a bar may be shown.
@@ -188,7 +152,7 @@ impl Check<'_, '_> {
 
     fn blocks(&mut self) -> Result<Stage, Failure> {
         let image = self.source.image();
-        let (mut tested, mut bytes, mut refused) = (0, 0, 0);
+        let mut tally = Tally::of("block");
         let mut held = Vec::new();
         self.bar = progress::bar(self.way.progress, self.count("blocks"), "testing blocks");
         for block in self
@@ -196,23 +160,18 @@ impl Check<'_, '_> {
             .clone()
             .wrap_iter(walk::blocks(self.source).flatten())
         {
-            tested += 1;
-            match image.test_block(block.id) {
-                Ok(size) => bytes += size as u64,
-                Err(refusal) => {
-                    refused += 1;
-                    held.push((block, refusal));
-                    if !self.way.all || held.len() == MOST_HELD {
-                        self.refuse_blocks(&mut held)?;
-                    }
+            if let Err(refusal) = tally.note(image.test_block(block.id)) {
+                held.push((block, refusal));
+                if !self.way.all || held.len() == MOST_HELD {
+                    self.refuse_blocks(&mut held)?;
                 }
-            }
-            if refused > 0 && !self.way.all {
-                break;
+                if self.broke_off() {
+                    break;
+                }
             }
         }
         self.refuse_blocks(&mut held)?;
-        Ok(self.counting("block", tested, refused, bytes))
+        Ok(Stage::testing(&tally, self.broke_off()))
     }
 
     /// Notes refused blocks along with the nodes that use them.
@@ -228,170 +187,42 @@ impl Check<'_, '_> {
         Ok(())
     }
 
+    /// Reads the data of every node through, without a buffer. Nodes that name one data tree share one
+    /// read of it, so that a small file with many such nodes does not take for ever.
     fn node_data(&mut self) -> Result<Stage, Failure> {
         let image = self.source.image();
-        let (mut read, mut bytes, mut refused) = (0, 0, 0);
+        let mut tally = Tally::of("node");
+        let mut known = HashMap::new();
         self.bar = progress::bar(self.way.progress, self.count("nodes"), "reading nodes");
         for node in self
             .bar
             .clone()
             .wrap_iter(walk::nodes(self.source).flatten())
         {
-            read += 1;
-            match image.test_node(node.id) {
-                Ok(length) => bytes += length.unwrap_or(0) as u64,
-                Err(refusal) => {
-                    refused += 1;
-                    if self.refuse(refusal, &Spot::Data(node))? {
-                        break;
-                    }
+            let tested = match known.get(&node.data) {
+                Some(tested) => *tested,
+                None => image.test_node(node.id).map(Option::unwrap_or_default),
+            };
+            if node.has_data_tree() && known.len() < MOST_HELD {
+                known.insert(node.data, tested);
+            }
+            if let Err(refusal) = tally.note(tested) {
+                if self.refuse(refusal, &Spot::Data(node))? {
+                    break;
                 }
             }
         }
-        Ok(self.counting("node", read, refused, bytes))
-    }
-
-    /// A stage that tested so many blocks or nodes.
-    fn counting(&self, noun: &str, tested: u64, refused: u64, bytes: u64) -> Stage {
-        let size = counted(bytes, "byte");
-        let mut stage = Stage::new(
-            format!("{}, {size}", counted(tested, noun)),
-            json!({format!("{noun}s"): tested, "refused": refused, "bytes": bytes}),
-        );
-        let broke_off = !self.way.all && self.worst == Some(Outcome::Damaged);
-        if broke_off {
-            stage.text = String::new();
-        } else if refused > 0 {
-            let of = format!("{} of {}", HumanCount(refused), counted(tested, noun));
-            stage.text = format!("{of} refused, {size} accepted");
-            stage.refused = Some(of);
-        }
-        stage
+        Ok(Stage::testing(&tally, self.broke_off()))
     }
 
     /// What an earlier stage counted.
     fn count(&self, what: &str) -> u64 {
-        let mut counts = self.stages.iter().filter_map(|stage| stage.facts.get(what));
-        counts.find_map(Value::as_u64).unwrap_or(0)
-    }
-}
-
-impl Stage {
-    fn new(text: String, values: Value) -> Stage {
-        Stage {
-            text,
-            facts: facts(values),
-            ..Stage::default()
-        }
+        let mut counts = self.stages.iter().filter_map(|stage| stage.count(what));
+        counts.next().unwrap_or(0)
     }
 
-    /// Of a tree with so many entries, of which so many pages are refused.
-    fn listing(noun: &str, entries: u64, level: u64, pages: u64) -> Stage {
-        let listed = counted(entries, noun);
-        let plural = format!("{noun}s");
-        if pages == 0 {
-            return Stage::new(
-                format!("{listed}, level {level}"),
-                json!({plural: entries, "refused": 0, "level": level}),
-            );
-        }
-        let refused = counted(pages, "page");
-        Stage {
-            refused: Some(refused.clone()),
-            ..Stage::new(
-                format!("{refused} refused, {listed} listed"),
-                json!({plural: entries, "refused": pages}),
-            )
-        }
-    }
-
-    fn word(&self) -> &'static str {
-        match self.outcome {
-            None => "accepted",
-            Some(Outcome::Damaged) => "refused",
-            Some(outcome) => outcome.word(),
-        }
-    }
-
-    fn line(&self) -> String {
-        let line = format!("{:<12} {:<11} {}", self.name, self.word(), self.text);
-        line.trim_end().to_string()
-    }
-
-    fn entry(&self) -> Value {
-        let outcome = self.outcome.unwrap_or(Outcome::Accepted);
-        let mut entry = json!({"stage": self.name, "outcome": outcome.word()});
-        for (name, value) in &self.facts {
-            entry[name] = value.clone();
-        }
-        entry
-    }
-}
-
-fn facts(values: Value) -> Map<String, Value> {
-    match values {
-        Value::Object(map) => map,
-        _ => Map::new(),
-    }
-}
-
-impl Report {
-    /// Ends the report of a file: the account of a refusal, and what was looked at.
-    fn tell(&self, way: Way, out: &mut Output<'_>) -> Result<(), Failure> {
-        out.end_list()?;
-        let stages: Vec<Value> = self.stages.iter().map(Stage::entry).collect();
-        out.fact("stages", stages)?;
-        out.fact("not_looked_at", self.left())?;
-        out.row("")?;
-        match &self.decisive {
-            Some(account) if way.all => out.row(account.advice())?,
-            Some(account) => out.row(account.text())?,
-            None => {}
-        }
-        let is_header = self.stages.len() == 1;
-        if !way.all && !is_header && self.outcome == Outcome::Damaged {
-            out.row(GOES_ON)?;
-        }
-        out.line(self.closing())
-    }
-
-    /// What was not looked at.
-    fn left(&self) -> Vec<&'static str> {
-        let stages = STAGES.iter().skip(self.stages.len());
-        stages.copied().chain(NOT_LOOKED_AT).collect()
-    }
-
-    /// What is refused, in one line; none where all is accepted.
-    pub fn line(&self, way: Way) -> Option<String> {
-        if !way.all {
-            return self.decisive.as_ref().map(Account::line);
-        }
-        let refused = self.stages.iter().filter(|stage| stage.outcome.is_some());
-        let verdicts: Vec<String> = refused.map(Stage::verdict).collect();
-        (!verdicts.is_empty()).then(|| verdicts.join("; "))
-    }
-
-    /// What was looked at with what outcome, and what was not.
-    fn closing(&self) -> String {
-        let accepted = self.stages.iter().filter(|stage| stage.outcome.is_none());
-        let names: Vec<&str> = accepted.map(|stage| stage.name).collect();
-        let refused = self.stages.iter().filter(|stage| stage.outcome.is_some());
-        let mut parts: Vec<String> = refused.map(Stage::verdict).collect();
-        if parts.is_empty() {
-            parts.push(names.join(", "));
-        } else if !names.is_empty() {
-            parts.insert(0, format!("{} accepted", names.join(", ")));
-        }
-        parts.push(format!("not looked at: {}", self.left().join(", ")));
-        format!("{}: {}", self.outcome.word(), parts.join("; "))
-    }
-}
-
-impl Stage {
-    /// "blocks refused (1 of 22 blocks)".
-    fn verdict(&self) -> String {
-        let count = self.refused.as_ref();
-        let count = count.map_or(String::new(), |count| format!(" ({count})"));
-        format!("{} {}{count}", self.name, self.word())
+    /// Whether the stage ended with its first refusal.
+    fn broke_off(&self) -> bool {
+        !self.way.all && self.worst == Some(Outcome::Damaged)
     }
 }

@@ -15,6 +15,7 @@ mod output;
 mod place;
 mod progress;
 mod props;
+mod report;
 mod search;
 mod source;
 mod tree;

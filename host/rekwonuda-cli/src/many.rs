@@ -1,11 +1,12 @@
 //! A check of many files, some of them at once.
 
 use crate::args::CheckArguments;
-use crate::check::{check, Way, NOT_LOOKED_AT};
+use crate::check::{check, Way};
 use crate::names::{self, is_standard};
 use crate::outcome::{Failure, Outcome};
 use crate::output::{Form, Output};
 use crate::progress;
+use crate::report::NOT_LOOKED_AT;
 use crate::search::{search, Found};
 use crate::source::{cannot_read, shown_name, Source};
 use crate::words::counted;

@@ -3,6 +3,7 @@
 use crate::images::sound;
 use crate::runs::{file, office, run, run_in, Run};
 use crate::spoilt::{changed, flipped, sealed, with_block, with_bytes, with_data, with_tree};
+use model::build::seal::seal_page;
 use model::build::{build, Built, PlacedPage, Plan};
 use model::page::Tree;
 use serde_json::Value;
@@ -433,6 +434,34 @@ fn all_goes_on_behind_pages_that_are_refused() {
         let unread = if tree == Tree::Blocks { lost } else { 0 };
         assert_eq!(answer["stages"][4]["refused"], unread);
     }
+}
+
+/// Read anew for each of its nodes, the data of this file would take minutes.
+#[test]
+fn nodes_that_share_a_data_tree_share_its_read() {
+    let plan = Plan {
+        bare_nodes: 20_000,
+        tree_nodes: 1,
+        most_size: 8_176,
+        most_children: 1_021,
+        one_child: true,
+        tidy: true,
+        ..Plan::default()
+    };
+    let built = build(9, &plan);
+    let data = with_tree(&built).data;
+    let mut image = built.image.clone();
+    let leaves = built.pages.iter().filter(|page| page.level == 0);
+    for page in leaves.filter(|page| page.tree == Tree::Nodes) {
+        for at in 0..page.keys.len() {
+            let field = page.offset + 32 * at + 8;
+            image[field..field + 8].copy_from_slice(&data.to_le_bytes());
+        }
+        seal_page(&mut image, page.offset);
+    }
+    let answer = run(&["check", "--json"], &file("shared.pst", &image), &[]).json();
+    assert_eq!(answer["outcome"], "accepted");
+    assert_eq!(answer["stages"][4]["bytes"], 20_001_u64 * 8_347_696);
 }
 
 #[test]
