@@ -14,9 +14,9 @@ const NEW_COPY: &str = "The file is damaged or was cut short in transfer. Ask fo
 const TOO_SHORT: &str =
     "This cannot be a .pst file: the copy is empty or broke off at once, or it \
     is another kind of file. Ask for a fresh copy and compare the sizes.";
-const TOO_LONG: &str = "This reader takes files of up to 1 GiB (1,073,741,824 bytes). It has not \
-    read this one, and says nothing about whether it is sound. Have its owner move part of the mail \
-    into a second data file in Outlook.";
+const TOO_LONG: &str = "This reader takes files of up to 1 GiB (1,073,741,824 bytes), and says \
+    nothing about whether this one is sound. Have its owner move part of the mail into a second data \
+    file in Outlook.";
 const NO_PST: &str = "This is not a .pst file, or its beginning was overwritten. Check that it is \
     the file you meant; one that came in an archive (.zip, .7z) must be unpacked first.";
 const OTHER_STORE: &str =

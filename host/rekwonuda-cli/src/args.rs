@@ -10,8 +10,8 @@ Exit status:
   1  damaged: the file is refused
   2  wrong usage, or a file cannot be read or written
   3  what was asked for is absent
-  4  not covered: another edition, a file over 1 GiB, a heap of several
-     blocks, a node of another kind";
+  4  not covered: another edition, a file over 1 GiB, a data tree of two
+     levels, a heap of several blocks, a node of another kind";
 
 const NOTES: &str = "\
 Every answer is given by a library that is proved to answer rightly for any bytes. \

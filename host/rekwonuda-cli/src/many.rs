@@ -19,7 +19,7 @@ use std::path::Path;
 use std::sync::{Mutex, PoisonError};
 use std::thread::available_parallelism;
 
-/// The outcomes that are counted, and what a file of each is called.
+/// The outcomes that are counted, and what a file of each is called; the last is of folders.
 const COUNTED: [(Outcome, &str); 5] = [
     (Outcome::Accepted, "accepted"),
     (Outcome::Damaged, "damaged"),
@@ -192,19 +192,27 @@ impl Teller {
         if let Some(failure) = self.unwritten {
             return Err(failure);
         }
-        let files: u64 = self.counts.iter().sum();
+        let [files @ .., absent] = self.counts;
+        let total = files.iter().sum();
         let mut out = Output::standard(form, Some("check"))?;
-        let mut summary = json!({ "files": files });
-        let mut parts = Vec::new();
+        let mut summary = json!({ "files": total });
         for (count, (_, word)) in self.counts.iter().zip(COUNTED) {
             summary[word.replace(' ', "_")] = (*count).into();
-            parts.push(format!("{} {word}", HumanCount(*count)));
         }
         out.fact("summary", summary)?;
         out.fact("not_looked_at", NOT_LOOKED_AT.to_vec())?;
-        let (files, counts) = (counted(files, "file"), parts.join(", "));
-        let left = NOT_LOOKED_AT.join(", ");
-        out.line(format!("\n{files}: {counts}; not looked at: {left}"))?;
+        let parts = files.iter().zip(COUNTED);
+        let parts: Vec<String> = parts
+            .map(|(count, (_, word))| format!("{} {word}", HumanCount(*count)))
+            .collect();
+        let mut line = format!("\n{}: {}", counted(total, "file"), parts.join(", "));
+        if absent > 0 {
+            line += &format!("; no .pst file in {}", counted(absent, "folder"));
+        }
+        out.line(format!(
+            "{line}; not looked at: {}",
+            NOT_LOOKED_AT.join(", ")
+        ))?;
         Ok(out.finish(None, Ok(self.worst)))
     }
 }

@@ -34,7 +34,8 @@ fn lines(run: &Run) -> Vec<String> {
     lines
 }
 
-const SUMMARY: &str = "7 files: 2 accepted, 1 damaged, 2 not covered, 2 unreadable, 0 absent; not looked at: subnodes, heaps";
+const SUMMARY: &str =
+    "7 files: 2 accepted, 1 damaged, 2 not covered, 2 unreadable; not looked at: subnodes, heaps";
 
 #[test]
 fn folders_are_searched_and_every_file_is_told() {
@@ -104,6 +105,13 @@ fn the_worst_file_decides_the_exit_status() {
         let run = run(&["check"], paths[0], &rest);
         assert_eq!(run.status, status, "{}", run.text);
         assert_eq!(run.text.lines().count(), paths.len() + 2, "{}", run.text);
+        let empty = paths.contains(&&empty);
+        assert_eq!(
+            run.says("; no .pst file in 1 folder;"),
+            empty,
+            "{}",
+            run.text
+        );
     }
 }
 
