@@ -104,7 +104,7 @@ pub struct NodeArguments {
     pub output: Option<PathBuf>,
     /// Replace OUT where it is there already
     ///
-    /// Where OUT is a link, the link is replaced, and not what it points to.
+    /// Where OUT is a link to a file, that file is replaced.
     #[arg(long)]
     pub force: bool,
 }

@@ -10,29 +10,39 @@ use std::process;
 
 /// A file to be written, whose name is found to be free or may be taken.
 pub struct Target<'a> {
-    path: &'a Path,
+    name: &'a Path,
+    /// The file itself, where the name is that of a link to it.
+    path: PathBuf,
     replaces: bool,
 }
 
 impl<'a> Target<'a> {
-    /// Makes sure, before anything is read, that the name may be written to: that it is not the
+    /// Makes sure, before the node is looked at, that the name may be written to: that it is not the
     /// source, by whatever name or link, and is free, unless it may be replaced.
-    pub fn new(path: &'a Path, source: Identity, force: bool) -> Result<Target<'a>, Failure> {
-        let name = names::shown(path);
-        let refuse = |why: &str| Err(Failure::Error(format!("will not write to {name}: {why}")));
-        let replaces = match fs::metadata(path) {
+    pub fn new(name: &'a Path, source: Identity, force: bool) -> Result<Target<'a>, Failure> {
+        let refuse = |why: &str| {
+            let name = names::shown(name);
+            Err(Failure::Error(format!("will not write to {name}: {why}")))
+        };
+        let replaces = match fs::metadata(name) {
             Ok(there) if Identity::of(&there) == source => {
                 return refuse("it is the file that is read");
             }
             Ok(there) if !there.is_file() => return refuse("it is there, and is no plain file"),
+            Ok(_) if !force => return refuse("it is there already, and --force is not given"),
             Ok(_) => true,
-            Err(error) if error.kind() == ErrorKind::NotFound => path.is_symlink(),
-            Err(error) => return Err(cannot_write(path, &error)),
+            Err(_) if name.is_symlink() => return refuse("it is a link that leads nowhere"),
+            Err(_) => false,
         };
-        if replaces && !force {
-            return refuse("it is there already, and --force is not given");
-        }
-        Ok(Target { path, replaces })
+        let path = match replaces {
+            true => fs::canonicalize(name).map_err(|error| cannot_write(name, &error))?,
+            false => name.to_path_buf(),
+        };
+        Ok(Target {
+            name,
+            path,
+            replaces,
+        })
     }
 
     /// Writes all bytes, or leaves everything as it was.
@@ -42,23 +52,30 @@ impl<'a> Target<'a> {
             _ => Path::new("."),
         };
         let written = Part::begin(folder).and_then(|part| {
+            if self.replaces {
+                // Who may read the file is as before, from its first byte on.
+                part.file
+                    .set_permissions(fs::metadata(&self.path)?.permissions())?;
+            }
             part.fill(bytes)?;
-            self.put_in_place(part)?;
-            File::open(folder)?.sync_all()
+            self.put_in_place(part)
         });
-        written.map_err(|error| cannot_write(self.path, &error))
+        written.map_err(|error| cannot_write(self.name, &error))?;
+        // It is in place, whether or not the folder can be synced too.
+        let _ = File::open(folder).and_then(|folder| folder.sync_all());
+        Ok(())
     }
 
     /// Renames the part. Where nothing is to be replaced the name is first taken by an empty file,
     /// so that a file that came there meanwhile is not lost.
     fn put_in_place(&self, part: Part) -> io::Result<()> {
         if self.replaces {
-            return part.rename(self.path);
+            return part.rename(&self.path);
         }
-        create(self.path)?;
-        let renamed = part.rename(self.path);
+        create(&self.path)?;
+        let renamed = part.rename(&self.path);
         if renamed.is_err() {
-            let _ = fs::remove_file(self.path);
+            let _ = fs::remove_file(&self.path);
         }
         renamed
     }

@@ -5,7 +5,7 @@ use crate::runs::{file, folder, listed, office, run, run_in, Run};
 use crate::spoilt::{changed, with_tree};
 use model::Node;
 use std::fs;
-use std::os::unix::fs::symlink;
+use std::os::unix::fs::{symlink, PermissionsExt};
 use std::path::Path;
 
 fn number(node: &Node) -> String {
@@ -125,11 +125,11 @@ fn the_file_that_is_read_is_never_written() {
 #[test]
 fn a_file_that_is_there_is_replaced_by_force_alone() {
     let folder = with_sample("node_force");
-    let kept = |name: &str| fs::read_to_string(folder.join(name)).unwrap();
-    fs::write(folder.join("there"), "kept").unwrap();
-    symlink("there", folder.join("link")).unwrap();
-    symlink("nowhere", folder.join("dangling")).unwrap();
-    for name in ["there", "link", "dangling"] {
+    let kept = |name: &str| fs::read(folder.join(name)).unwrap();
+    fs::create_dir(folder.join("sub")).unwrap();
+    fs::write(folder.join("sub/there"), "kept").unwrap();
+    symlink("sub/there", folder.join("link")).unwrap();
+    for name in ["sub/there", "link"] {
         let run = write(&folder, &format!("-o {name}"));
         assert_eq!(run.status, 2, "{name}");
         assert!(
@@ -137,14 +137,22 @@ fn a_file_that_is_there_is_replaced_by_force_alone() {
             "{}",
             run.errors
         );
+        assert_eq!(kept("sub/there"), b"kept");
     }
-    assert_eq!(write(&folder, "-o link --force").status, 0);
-    assert_eq!(kept("there"), "kept");
-    assert!(!folder.join("link").is_symlink());
-    assert_eq!(write(&folder, "--force -o there").status, 0);
-    assert_eq!(fs::read(folder.join("there")).unwrap().len(), 102);
-    assert_eq!(write(&folder, "--force -o dangling").status, 0);
-    assert_eq!(listed(&folder), ["dangling", "in.pst", "link", "there"]);
+    for name in ["sub/there", "link"] {
+        fs::write(folder.join("sub/there"), "kept").unwrap();
+        run_in(&folder, "chmod 600 sub/there");
+        assert_eq!(write(&folder, &format!("--force -o {name}")).status, 0);
+        assert_eq!(kept("sub/there").len(), 102);
+        let there = fs::metadata(folder.join("sub/there")).unwrap();
+        assert_eq!(there.permissions().mode() & 0o777, 0o600);
+        assert!(folder.join("link").is_symlink());
+    }
+    symlink("nowhere", folder.join("dangling")).unwrap();
+    assert_eq!(write(&folder, "-o dangling").status, 2);
+    assert_eq!(write(&folder, "-o dangling --force").status, 2);
+    assert_eq!(listed(&folder), ["dangling", "in.pst", "link", "sub"]);
+    assert_eq!(listed(&folder.join("sub")), ["there"]);
 }
 
 #[test]
