@@ -2,7 +2,7 @@
 
 use crate::args::CheckArguments;
 use crate::check::{check, Way};
-use crate::names::{self, is_standard};
+use crate::names::is_standard;
 use crate::outcome::{Failure, Outcome};
 use crate::output::{Form, Output};
 use crate::progress;
@@ -81,24 +81,17 @@ struct Line {
 
 impl Line {
     fn new(found: &Found, way: Way, form: Form) -> Line {
+        let (path, source) = read(found);
         match form {
-            Form::Json => Line::json(found, way),
-            _ => Line::text(found, way),
+            Form::Json => Line::json(path, source, way),
+            _ => Line::text(path, source, way),
         }
     }
 
-    fn text(found: &Found, way: Way) -> Line {
-        let unreadable = |why: String| (Outcome::Error, Some(why));
-        let (path, (outcome, told)) = match found {
-            Found::File(path) => match Source::read(path) {
-                Ok(source) => (path, silently(&source, way)),
-                Err(error) => (path, unreadable(error.to_string())),
-            },
-            Found::Unreadable(path, why) => (path, unreadable(why.clone())),
-            Found::Empty(path) => {
-                let why = "no .pst file in this folder".to_string();
-                (path, (Outcome::Absent, Some(why)))
-            }
+    fn text(path: &Path, source: Result<Source, Unread>, way: Way) -> Line {
+        let (outcome, told) = match source {
+            Ok(source) => silently(&source, way),
+            Err((outcome, why)) => (outcome, Some(why)),
         };
         let told = told.map_or(String::new(), |told| format!(": {told}"));
         let line = format!("{:<12} {}{told}\n", word(outcome), shown_name(path));
@@ -108,23 +101,39 @@ impl Line {
         }
     }
 
-    fn json(found: &Found, way: Way) -> Line {
+    fn json(path: &Path, source: Result<Source, Unread>, way: Way) -> Line {
         let mut bytes = Vec::new();
-        let outcome = match found {
-            Found::File(path) => match Source::read(path) {
-                Ok(source) => in_json(path, Ok(&source), way, &mut bytes),
-                Err(error) => in_json(path, Err(cannot_read(path, error)), way, &mut bytes),
-            },
-            Found::Unreadable(path, why) => {
-                in_json(path, Err(cannot_read(path, why)), way, &mut bytes)
-            }
-            Found::Empty(path) => {
-                let message = format!("no .pst file in {}", names::shown(path));
-                in_json(path, Err(Failure::Absent(message)), way, &mut bytes)
-            }
-        };
-        let outcome = outcome.unwrap_or(Outcome::Error);
+        let answered = Output::new(Form::Json, &mut bytes, Some("check")).and_then(|mut out| {
+            out.name("file", path)?;
+            Ok(match source {
+                Ok(source) => {
+                    let report = check(&source, way, &mut out);
+                    out.finish(Some(&source), report.map(|report| report.outcome))
+                }
+                Err((Outcome::Absent, why)) => out.finish(None, Err(Failure::Absent(why))),
+                Err((_, why)) => out.finish(None, Err(cannot_read(path, why))),
+            })
+        });
+        let outcome = answered.unwrap_or(Outcome::Error);
         Line { outcome, bytes }
+    }
+}
+
+/// How a file ends that was not read, and why.
+type Unread = (Outcome, String);
+
+fn read(found: &Found) -> (&Path, Result<Source, Unread>) {
+    let unreadable = |why: String| (Outcome::Error, why);
+    match found {
+        Found::File(path) => {
+            let source = Source::read(path);
+            (path, source.map_err(|error| unreadable(error.to_string())))
+        }
+        Found::Unreadable(path, why) => (path, Err(unreadable(why.clone()))),
+        Found::Empty(path) => {
+            let why = "no .pst file in this folder".to_string();
+            (path, Err((Outcome::Absent, why)))
+        }
     }
 }
 
@@ -136,22 +145,6 @@ fn silently(source: &Source, way: Way) -> (Outcome, Option<String>) {
         Ok(report) => (report.outcome, report.line(way)),
         Err(_) => (Outcome::Error, None),
     }
-}
-
-fn in_json(
-    path: &Path,
-    source: Result<&Source, Failure>,
-    way: Way,
-    bytes: &mut Vec<u8>,
-) -> Result<Outcome, Failure> {
-    let mut out = Output::new(Form::Json, bytes, Some("check"))?;
-    out.name("file", path)?;
-    let read = source.as_ref().ok().copied();
-    let result = match source {
-        Ok(source) => check(source, way, &mut out).map(|report| report.outcome),
-        Err(failure) => Err(failure),
-    };
-    Ok(out.finish(read, result))
 }
 
 /// Says what came out of each file as it ends, and counts.
@@ -184,7 +177,9 @@ impl Teller {
             out.flush()
         });
         self.bar.inc(1);
-        self.unwritten = written.err().map(Failure::from);
+        if let Err(error) = written {
+            self.unwritten = Some(error.into());
+        }
     }
 
     fn end(self, form: Form) -> Result<Outcome, Failure> {

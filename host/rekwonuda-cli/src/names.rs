@@ -1,10 +1,9 @@
 //! Names of files as they are shown. A name may hold any bytes but 0.
 
+use crate::words::hex;
 use serde_json::Value;
 use std::os::unix::ffi::OsStrExt;
 use std::path::Path;
-
-use crate::words::hex;
 
 /// The name that stands for standard input, or standard output.
 pub const STANDARD: &str = "-";

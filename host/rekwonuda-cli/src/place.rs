@@ -43,20 +43,8 @@ fn in_header(source: &Source, refusal: &Refusal) -> String {
             let edition = edition(number).unwrap_or("which no edition known here has");
             format!("{at}: the header, its version: {number}, {edition}")
         }
-        (4, first) => {
-            let length = if first == 4 {
-                FIRST_SUMMED
-            } else {
-                SECOND_SUMMED
-            };
-            let sum = rekwonuda::checksum(source.bytes_at(8, length)).to_le_bytes();
-            format!(
-                "{at}: the header's checksum of bytes 8 to {}: stored {}, computed {}",
-                7 + length,
-                shown(4),
-                spaced_hex(&sum)
-            )
-        }
+        (4, 4) => format!("{at}: {}", checksum(source, FIRST_SUMMED, &shown(4))),
+        (4, _) => format!("{at}: {}", checksum(source, SECOND_SUMMED, &shown(4))),
         (_, 512) => format!(
             "{at}: the header, a byte that should be 80, and is {}",
             shown(1)
@@ -66,6 +54,13 @@ fn in_header(source: &Source, refusal: &Refusal) -> String {
             shown(1)
         ),
     }
+}
+
+fn checksum(source: &Source, length: usize, stored: &str) -> String {
+    let last = 7 + length;
+    let computed = rekwonuda::checksum(source.bytes_at(8, length)).to_le_bytes();
+    let computed = spaced_hex(&computed);
+    format!("the header's checksum of bytes 8 to {last}: stored {stored}, computed {computed}")
 }
 
 fn in_tree(source: &Source, refusal: &Refusal, spot: &Spot) -> String {
