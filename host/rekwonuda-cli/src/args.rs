@@ -65,6 +65,7 @@ pub enum Command {
 }
 
 #[derive(Args)]
+#[command(after_long_help = STATUS)]
 pub struct CheckArguments {
     /// .pst files, folders, or - for standard input
     ///
@@ -83,12 +84,14 @@ pub struct CheckArguments {
 }
 
 #[derive(Args)]
+#[command(after_long_help = STATUS)]
 pub struct FileArgument {
     /// The .pst file, or - for standard input
     pub file: PathBuf,
 }
 
 #[derive(Args)]
+#[command(after_long_help = STATUS)]
 pub struct NodeArguments {
     /// The .pst file, or - for standard input
     pub file: PathBuf,
@@ -110,6 +113,7 @@ pub struct NodeArguments {
 }
 
 #[derive(Args)]
+#[command(after_long_help = STATUS)]
 pub struct PropsArguments {
     /// The .pst file, or - for standard input
     pub file: PathBuf,

@@ -158,5 +158,6 @@ fn help_is_short_or_long_and_tells_the_exit_statuses() {
     for command in ["check", "node"] {
         let [short, long] = ["-h", "--help"].map(|word| words(&[command, word]));
         assert!(short.text.lines().count() < long.text.lines().count());
+        assert!(long.says("3 what was asked for is absent"), "{}", long.text);
     }
 }
