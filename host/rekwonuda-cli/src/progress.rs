@@ -8,23 +8,25 @@ use std::borrow::Cow;
 /// A file so large that a reader waits for it.
 const LARGE: u64 = 16 << 20;
 
-/// With less than this, a bar says less than its words.
-const NARROW: u16 = 40;
-
-const WIDE_BAR: &str = "{msg} {wide_bar} {percent:>3}% {eta:>4}";
-const NARROW_BAR: &str = "{wide_msg}";
+/// Words and a bar, words and a number, words alone: of each, the wide part takes what room is left.
+const WIDE: &str = "{msg} {wide_bar} {percent:>3}% {eta:>4}";
+const NARROW: &str = "{percent:>3}% {wide_msg}";
+const WORDS: &str = "{wide_msg}";
 
 /// Progress through that many steps.
 pub fn bar(shown: bool, steps: u64, doing: impl Into<Cow<'static, str>>) -> ProgressBar {
     let (_, columns) = Term::stderr().size();
-    let wide = columns >= NARROW;
-    let template = if wide { WIDE_BAR } else { NARROW_BAR };
+    let template = match columns {
+        0..10 => WORDS,
+        10..40 => NARROW,
+        _ => WIDE,
+    };
     made(shown, ProgressBar::new(steps), template, doing)
 }
 
 /// A sign of life.
 pub fn spinner(shown: bool, doing: impl Into<Cow<'static, str>>) -> ProgressBar {
-    made(shown, ProgressBar::new_spinner(), NARROW_BAR, doing)
+    made(shown, ProgressBar::new_spinner(), WORDS, doing)
 }
 
 pub fn is_worthwhile(size: Option<u64>) -> bool {

@@ -6,7 +6,7 @@ use model::build::{build, Plan};
 use std::fs;
 use std::path::{Path, PathBuf};
 
-const WIDTHS: [usize; 6] = [10, 25, 40, 60, 76, 120];
+const WIDTHS: [usize; 7] = [5, 10, 25, 40, 60, 76, 120];
 
 /// What a terminal of that width is sent by a run with these words.
 fn sent(width: usize, words: &str) -> String {
@@ -35,7 +35,7 @@ fn progress_leaves_nothing_behind_in_any_width() {
     let plain = run(&["check"], &path, &[]).text;
     for width in WIDTHS {
         let sent = sent(width, &format!("check {}", path.display()));
-        assert!(sent.contains("testing"), "no progress at {width}");
+        assert!(sent.contains("test"), "no progress at {width}");
         let mut screens = [Screen::new(width), Screen::new(width)];
         screens[0].show(&sent);
         screens[1].show(&plain.replace('\n', "\r\n"));
