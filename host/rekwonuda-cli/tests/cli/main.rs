@@ -9,6 +9,7 @@ mod lists;
 mod many;
 mod node;
 mod props;
+mod readme;
 mod runs;
 mod screen;
 mod spoilt;
