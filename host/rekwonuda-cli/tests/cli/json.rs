@@ -1,125 +1,26 @@
 //! What `--json` writes is what docs/JSON.md says: its tables, and its examples.
 
 use crate::images::{sample, sound};
-use crate::runs::{file, folder, office, repository, run, run_in, words, Run};
+use crate::page::{self, Shapes};
+use crate::runs::{command, file, folder, office, repository, run, run_in, words, Run};
 use crate::spoilt::changed;
 use serde_json::{json, Value};
-use std::collections::BTreeMap;
 use std::ffi::OsStr;
 use std::fs;
 use std::os::unix::ffi::OsStrExt;
 use std::os::unix::fs::symlink;
 use std::path::Path;
 
-/// The largest number that JavaScript and jq hold exactly, with all below it.
-const SAFE: u64 = 1 << 53;
-
-/// The tables of the page: for each heading its fields, each with its value and when it is there.
-struct Shapes(BTreeMap<String, Vec<[String; 3]>>);
-
-impl Shapes {
-    fn read() -> Shapes {
-        let page = fs::read_to_string(repository("docs/JSON.md")).unwrap();
-        let mut shapes = BTreeMap::new();
-        let mut heading = String::new();
-        for line in page.lines() {
-            if let Some(name) = line.strip_prefix("## ").or(line.strip_prefix("### ")) {
-                heading = name.to_string();
-            } else if line.starts_with("| `") {
-                let cells: Vec<_> = line.trim_matches('|').split('|').map(str::trim).collect();
-                let row = [cells[0].trim_matches('`'), cells[1], cells[2]].map(str::to_string);
-                let fields: &mut Vec<_> = shapes.entry(heading.clone()).or_default();
-                fields.push(row);
-            }
-        }
-        Shapes(shapes)
-    }
-
-    /// Holds an answer to the table of every answer and to that of its command.
-    fn hold_answer(&self, answer: &Value) {
-        let mut fields = self.0["Every answer"].clone();
-        if let Some(command) = answer["command"].as_str() {
-            fields.extend(self.0[command].clone());
-        }
-        self.hold_fields(&fields, answer);
-    }
-
-    fn hold_fields(&self, fields: &[[String; 3]], object: &Value) {
-        let object = object.as_object().expect("an object");
-        for [name, value, when] in fields {
-            match object.get(name) {
-                Some(found) => self.hold(value, found),
-                None => assert!(!when.starts_with("always"), "no {name} in {object:?}"),
-            }
-        }
-        for name in object.keys() {
-            let told = fields.iter().any(|[field, ..]| field == name);
-            assert!(told, "the page does not tell of {name}: {object:?}");
-        }
-    }
-
-    /// Holds a value to what a table calls it.
-    fn hold(&self, told: &str, value: &Value) {
-        let or_null = told.strip_suffix(" or null");
-        if let Some(told) = or_null {
-            let told = told.trim_end_matches(';');
-            return match value {
-                Value::Null => {}
-                _ => self.hold(told, value),
-            };
-        }
-        if let Some(told) = told.strip_prefix("list of ") {
-            let entries = value.as_array().expect("a list");
-            return entries.iter().for_each(|entry| self.hold(told, entry));
-        }
-        let text = value.as_str().unwrap_or("?");
-        let holds = match told.strip_prefix("one of ") {
-            Some(words) => words.split(", ").any(|word| word == text),
-            None => match told {
-                "number" => value.as_u64().is_some_and(|number| number <= SAFE),
-                "text" => value.is_string(),
-                "true" => value == true,
-                "digits" => text
-                    .parse::<u64>()
-                    .is_ok_and(|number| number.to_string() == text),
-                "hex" => {
-                    text.len().is_multiple_of(2)
-                        && text
-                            .bytes()
-                            .all(|digit| b"0123456789abcdef".contains(&digit))
-                }
-                shape => return self.hold_fields(&self.0[shape], value),
-            },
-        };
-        assert!(holds, "{value} is not {told}");
-    }
-
-    /// Holds every line of a run, the last of which says the exit status.
-    fn hold_run(&self, run: &Run) -> Value {
-        assert_eq!(run.errors, "");
-        let lines: Vec<Value> = run
-            .text
-            .lines()
-            .map(|line| serde_json::from_str(line).unwrap())
-            .collect();
-        for answer in &lines {
-            self.hold_answer(answer);
-        }
-        let last = lines.last().expect("there is an answer").clone();
-        assert_eq!(last["status"], run.status);
-        last
-    }
-}
-
 /// Every command on the path, with all that it can ask for.
 fn hold_commands(shapes: &Shapes, path: &Path, nodes: &[u64]) {
-    for words in [
-        &["check"][..],
+    let commands: [&[&str]; 5] = [
+        &["check"],
         &["check", "--all"],
         &["info"],
         &["nodes"],
         &["blocks"],
-    ] {
+    ];
+    for words in commands {
         shapes.hold_run(&run(&[words, &["--json"]].concat(), path, &[]));
     }
     for node in nodes {
@@ -141,73 +42,61 @@ fn answers_have_the_shape_of_the_page() {
         let path = file(&format!("json_{at}.pst"), &changed(&built, offset));
         hold_commands(&shapes, &path, &built.node_numbers()[..3]);
     }
-    let spoilt: Vec<u8> = built.image[..built.image.len() - 2000].to_vec();
-    hold_commands(
-        &shapes,
-        &file("json_cut.pst", &spoilt),
-        &built.node_numbers(),
-    );
+    let cut = &built.image[..built.image.len() - 2000];
+    hold_commands(&shapes, &file("json_cut.pst", cut), &built.node_numbers());
+    hold_failures(&shapes);
+    hold_names(&shapes);
+    shapes.all_were_met();
 }
 
-#[test]
-fn failures_have_the_shape_of_the_page() {
-    let shapes = Shapes::read();
-    for words in [
-        &["--json"][..],
+fn hold_failures(shapes: &Shapes) {
+    let wrong: [&[&str]; 4] = [
+        &["--json"],
         &["--json", "mend"],
         &["check", "--json"],
         &["check", "x", "--jobs", "+1", "--json"],
-    ] {
-        let answer = shapes.hold_run(&self::words(words));
-        assert_eq!(
-            (&answer["command"], &answer["outcome"]),
-            (&Value::Null, &"error".into())
-        );
-        assert!(
-            answer["message"].as_str().unwrap().contains("--help"),
-            "{answer}"
-        );
+    ];
+    for wrong in wrong {
+        let answer = shapes.hold_run(&words(wrong));
+        assert_eq!(answer["command"], Value::Null);
+        assert_eq!(answer["outcome"], "error");
+        let message = answer["message"].as_str().unwrap();
+        assert!(message.contains("--help"), "{answer}");
     }
     for command in ["check", "info", "nodes", "blocks"] {
         let answer = shapes.hold_run(&run(&[command, "--json"], Path::new("no/such.pst"), &[]));
-        assert_eq!(
-            (&answer["file"], &answer["status"]),
-            (&"no/such.pst".into(), &2.into())
-        );
+        assert_eq!(answer["file"], "no/such.pst");
+        assert_eq!(answer["status"], 2);
     }
     let unwritable = ["0x21", "-o", "no/such.bin"];
     shapes.hold_run(&run(&["node", "--json"], &office(), &unwritable));
-    let help = words(&["--json", "--help"]);
-    assert_eq!(help.status, 0);
 }
 
-#[test]
-fn names_that_are_no_text_can_be_recovered() {
-    let shapes = Shapes::read();
-    let name = b"odd\xFF\x1b[31m.pst";
+/// A name that is no text can be recovered.
+fn hold_names(shapes: &Shapes) {
     let folder = folder("json_names");
-    let path = folder.join(OsStr::from_bytes(name));
+    let path = folder.join(OsStr::from_bytes(b"odd\xFF\x1b[31m.pst"));
     fs::copy(office(), &path).unwrap();
-    let hex = |answer: &Value, key: &str| -> String {
-        let text = answer[key].as_str().unwrap();
-        let bytes = (0..text.len())
-            .step_by(2)
-            .map(|at| u8::from_str_radix(&text[at..at + 2], 16).unwrap());
-        String::from_utf8_lossy(&bytes.collect::<Vec<u8>>()).into_owned()
-    };
-    for words in [&["check", "--json"][..], &["info", "--json"]] {
-        let answer = shapes.hold_run(&run(words, &path, &[]));
-        assert_eq!(hex(&answer, "file_hex"), path.to_string_lossy());
+    for words in [["check", "--json"], ["info", "--json"]] {
+        let answer = shapes.hold_run(&run(&words, &path, &[]));
+        let name = unhex(answer["file_hex"].as_str().unwrap());
+        assert_eq!(name, path.as_os_str().as_bytes());
     }
     let several = run(&["check", "--json"], &folder, &[]);
     shapes.hold_run(&several);
     assert!(several.text.contains("file_hex") && !several.text.contains('\x1b'));
     let out = folder.join(OsStr::from_bytes(b"\xFE"));
-    let mut command = crate::runs::command(&["node", "--json"], &office(), &["0x21", "-o"]);
-    let answer: Value =
-        serde_json::from_slice(&command.arg(&out).output().unwrap().stdout).unwrap();
-    shapes.hold_answer(&answer);
-    assert!(answer["output_hex"].as_str().unwrap().ends_with("fe"));
+    let mut node = command(&["node", "--json"], &office(), &["0x21", "-o"]);
+    let answer = shapes.hold_run(&Run::of(node.arg(&out).output().unwrap()));
+    let name = unhex(answer["output_hex"].as_str().unwrap());
+    assert_eq!(name, out.as_os_str().as_bytes());
+}
+
+fn unhex(digits: &str) -> Vec<u8> {
+    let pairs = (0..digits.len()).step_by(2);
+    pairs
+        .map(|at| u8::from_str_radix(&digits[at..at + 2], 16).unwrap())
+        .collect()
 }
 
 #[test]
@@ -225,7 +114,7 @@ fn numbers_of_64_bits_survive() {
 /// Runs the examples of the page as they stand.
 #[test]
 fn examples_are_what_the_program_writes() {
-    let page = fs::read_to_string(repository("docs/JSON.md")).unwrap();
+    let page = page::text();
     let folder = folder("json_examples");
     symlink(repository("samples"), folder.join("samples")).unwrap();
     let blocks: Vec<&str> = page.split("```").skip(1).step_by(2).collect();

@@ -8,6 +8,7 @@ mod json;
 mod lists;
 mod many;
 mod node;
+mod page;
 mod props;
 mod readme;
 mod runs;

@@ -155,6 +155,8 @@ fn help_is_short_or_long_and_tells_the_exit_statuses() {
     assert!(long.says("a file that changes under a mapping is outside what is proved"));
     assert!(long.says("in the order 0, 3, 4, 1, 2"));
     assert!(short.text.len() < long.text.len());
+    let json = words(&["--json", "--help"]);
+    assert_eq!((json.status, json.text), (0, long.text));
     for command in ["check", "node"] {
         let [short, long] = ["-h", "--help"].map(|word| words(&[command, word]));
         assert!(short.text.lines().count() < long.text.lines().count());
