@@ -45,6 +45,7 @@ fn folders_are_searched_and_every_file_is_told() {
         assert_eq!((run.status, run.errors.as_str()), (2, ""));
         assert_eq!(run.text.lines().last(), Some(SUMMARY));
     }
+    fs::remove_dir_all(top).unwrap();
     assert_eq!(lines(&runs[0]), lines(&runs[1]));
     for told in [
         "accepted     ./a.pst",
@@ -68,6 +69,7 @@ fn folders_are_searched_and_every_file_is_told() {
 fn each_file_is_an_object_on_a_line() {
     let top = mixed("many_json");
     let run = run_in(&top, "./rekwonuda check --json .");
+    fs::remove_dir_all(top).unwrap();
     assert_eq!((run.status, run.errors.as_str()), (2, ""));
     let objects: Vec<Value> = run
         .text

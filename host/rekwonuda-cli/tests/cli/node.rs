@@ -166,6 +166,7 @@ fn what_is_no_plain_file_is_not_replaced() {
         assert!(run.errors.contains("is no plain file"), "{}", run.errors);
     }
     assert_eq!(listed(&folder), ["in.pst", "null", "pipe", "sub"]);
+    fs::remove_dir_all(folder).unwrap();
 }
 
 #[test]
