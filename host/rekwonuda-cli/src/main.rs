@@ -81,7 +81,7 @@ fn run(command: &Command, source: &Source, out: &mut Output<'_>) -> Result<Outco
         Command::Check(arguments) => {
             let way = Way {
                 all: arguments.all,
-                progress: progress::is_worthwhile(source.size),
+                progress: progress::is_worthwhile(source.size) && out.bears_progress(),
             };
             check::check(source, way, out).map(|report| report.outcome)
         }

@@ -4,7 +4,7 @@ use crate::outcome::{Failure, Outcome};
 use crate::source::Source;
 use serde_json::{json, Value};
 use std::fmt::Display;
-use std::io::{self, BufWriter, Write};
+use std::io::{self, BufWriter, IsTerminal, Write};
 use std::path::Path;
 
 /// The version of the shape that docs/JSON.md describes.
@@ -56,6 +56,12 @@ impl<'a> Output<'a> {
 
     pub fn is_json(&self) -> bool {
         self.form == Form::Json
+    }
+
+    /// Whether something shown on standard error may stand where the answer is written: not in the
+    /// midst of an unfinished line on a terminal.
+    pub fn bears_progress(&self) -> bool {
+        !self.is_json() || !io::stdout().is_terminal()
     }
 
     /// Writes a line of text, to be seen at once.

@@ -76,3 +76,21 @@ pub fn missing(source: &Source, node: &Node) -> Option<BlockId> {
         found.is_ok_and(|lookup| lookup.entry.is_none())
     })
 }
+
+#[cfg(test)]
+mod tests {
+    use super::*;
+
+    #[test]
+    fn users_are_named_and_beyond_ten_counted() {
+        let mut users = Users::default();
+        assert!(users.text().contains("no listed node"));
+        users.add(NodeId(0x21));
+        assert_eq!(users.text(), "used by the data of node 0x21");
+        users.add(NodeId(0x22));
+        assert_eq!(users.text(), "used by the data of nodes 0x21, 0x22");
+        (0..150).for_each(|node| users.add(NodeId(node)));
+        assert!(users.text().ends_with(", 0x7 and 142 nodes more"));
+        assert_eq!((users.count, users.first.len()), (152, MOST_NAMED));
+    }
+}

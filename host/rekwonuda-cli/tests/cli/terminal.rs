@@ -45,6 +45,16 @@ fn progress_leaves_nothing_behind_in_any_width() {
 }
 
 #[test]
+fn progress_does_not_break_into_json() {
+    let path = large("large_json.pst");
+    let plain = run(&["check", "--json"], &path, &[]).text;
+    let mut screen = Screen::new(60);
+    screen.show(&sent(60, &format!("check --json {}", path.display())));
+    assert_eq!(screen.lines().concat(), plain.trim_end());
+    fs::remove_file(path).unwrap();
+}
+
+#[test]
 fn progress_over_many_files_leaves_nothing_behind() {
     let folder = folder("many_shown");
     for at in 0..40 {
