@@ -1,23 +1,42 @@
 use clap::{Args, Parser, Subcommand};
+use std::num::NonZeroUsize;
 use std::path::PathBuf;
 
 const ABOUT: &str = "Checks and reads Outlook .pst files, and takes nothing in them on trust";
 
+const STATUS: &str = "\
+Exit status:
+  0  accepted, or done
+  1  damaged: the file is refused
+  2  wrong usage, or a file cannot be read or written
+  3  what was asked for is absent
+  4  not covered: another edition, a file over 1 GiB, a data tree of two
+     levels, a heap of several blocks, a node of another kind";
+
 const NOTES: &str = "\
 Every answer is given by a library that is proved to answer rightly for any bytes. \
 The file is read into memory and not mapped: a file that changes under a mapping is outside what is proved. \
-It may have up to 1 GiB.
+It may have up to 1 GiB. A FILE of - is standard input.
 
-Numbers are decimal, or hexadecimal after 0x.
+Numbers are decimal, or hexadecimal after 0x, without a sign.
 
-Exit status: 0 accepted; 1 refused, or what was asked for is absent; 2 wrong usage, or a file cannot be read or written.";
+With --json the answer is one object on one line, for several files one line each; docs/JSON.md describes it.
+
+";
+
+fn long_notes() -> String {
+    format!("{NOTES}{STATUS}\n\nOf several files the worst counts, in the order 0, 3, 4, 1, 2.")
+}
 
 /// What the user asked for.
 #[derive(Parser)]
-#[command(name = "rekwonuda", version, about = ABOUT, after_help = NOTES)]
+#[command(name = "rekwonuda", version, about = ABOUT)]
+#[command(after_help = STATUS, after_long_help = long_notes())]
 pub struct Arguments {
-    /// Answer in JSON on standard output: one object, or one array of entries for a list. A refusal is
-    /// an object with "refusal", "place", "more" and "meaning"; in a list it is the last entry
+    /// Answer in JSON
+    ///
+    /// The answer is one object on one line of standard output, also where the usage is wrong or the
+    /// file cannot be read.
     #[arg(long, global = true)]
     pub json: bool,
 
@@ -27,9 +46,12 @@ pub struct Arguments {
 
 #[derive(Subcommand)]
 pub enum Command {
-    /// Check the header, both trees and every listed block, up to the first refusal. What nodes hold is
-    /// tested when it is read, by `node` and `props`
-    Check(FileArgument),
+    /// Check a file, or every .pst file of a folder
+    ///
+    /// Five stages: the header, both trees, every listed block, and the data of every node, up to the
+    /// first refusal. Not looked at are subnodes, and heaps in the data. Of several files, or of a
+    /// folder, it gives one line each and a summary.
+    Check(CheckArguments),
     /// Say what the file is: its size, encoding method, trees and their counts
     Info(FileArgument),
     /// List all nodes: number, type, parent, data block and subnode block
@@ -43,27 +65,57 @@ pub enum Command {
 }
 
 #[derive(Args)]
+#[command(after_long_help = STATUS)]
+pub struct CheckArguments {
+    /// .pst files, folders, or - for standard input
+    ///
+    /// Folders are searched for names that end in .pst, in capitals or not, with all folders in them.
+    /// Links to folders are not followed.
+    #[arg(value_name = "FILE|FOLDER", required = true)]
+    pub paths: Vec<PathBuf>,
+    /// Go on past the first refusal and list every block and node that is refused
+    #[arg(long)]
+    pub all: bool,
+    /// How many files to check at once; without it, one for each processor
+    ///
+    /// Each is held in memory while it is checked.
+    #[arg(long, value_name = "N", value_parser = jobs)]
+    pub jobs: Option<NonZeroUsize>,
+}
+
+#[derive(Args)]
+#[command(after_long_help = STATUS)]
 pub struct FileArgument {
-    /// The .pst file
+    /// The .pst file, or - for standard input
     pub file: PathBuf,
 }
 
 #[derive(Args)]
+#[command(after_long_help = STATUS)]
 pub struct NodeArguments {
-    /// The .pst file
+    /// The .pst file, or - for standard input
     pub file: PathBuf,
     /// The number of the node, as 290 or 0x122
     #[arg(value_name = "NID", value_parser = node_number)]
     pub node: u32,
-    /// Write the data to this file, once all of it is read and accepted. Without it the data goes to
-    /// standard output, or a preview where that is a terminal
+    /// Write the data to this file; - is standard output
+    ///
+    /// It is written once all of the data is read and accepted: to a temporary file beside it, which
+    /// then takes its name. It is never the file that is read. Without it the data goes to standard
+    /// output, or a preview where that is a terminal.
     #[arg(short, long, value_name = "OUT")]
     pub output: Option<PathBuf>,
+    /// Replace OUT where it is there already
+    ///
+    /// Where OUT is a link to a file, that file is replaced.
+    #[arg(long)]
+    pub force: bool,
 }
 
 #[derive(Args)]
+#[command(after_long_help = STATUS)]
 pub struct PropsArguments {
-    /// The .pst file
+    /// The .pst file, or - for standard input
     pub file: PathBuf,
     /// The number of the node, as 33 or 0x21
     #[arg(value_name = "NID", value_parser = node_number)]
@@ -71,24 +123,37 @@ pub struct PropsArguments {
 }
 
 impl Command {
-    pub fn file(&self) -> &PathBuf {
+    pub fn name(&self) -> &'static str {
         match self {
-            Command::Check(arguments)
-            | Command::Info(arguments)
-            | Command::Nodes(arguments)
-            | Command::Blocks(arguments) => &arguments.file,
-            Command::Node(arguments) => &arguments.file,
-            Command::Props(arguments) => &arguments.file,
+            Command::Check(_) => "check",
+            Command::Info(_) => "info",
+            Command::Nodes(_) => "nodes",
+            Command::Blocks(_) => "blocks",
+            Command::Node(_) => "node",
+            Command::Props(_) => "props",
         }
     }
 }
 
 fn node_number(text: &str) -> Result<u32, String> {
-    let parsed = match text.strip_prefix("0x").or(text.strip_prefix("0X")) {
-        Some(digits) => u32::from_str_radix(digits, 16),
-        None => text.parse(),
+    let (digits, radix) = match text.strip_prefix("0x").or(text.strip_prefix("0X")) {
+        Some(digits) => (digits, 16),
+        None => (text, 10),
     };
-    parsed.map_err(|_| "a node number is decimal or 0x with hexadecimal, under 2^32".to_string())
+    number(digits, radix)
+        .ok_or_else(|| "a node number is decimal or 0x with hexadecimal, under 2^32".to_string())
+}
+
+fn jobs(text: &str) -> Result<NonZeroUsize, String> {
+    number(text, 10)
+        .and_then(|jobs| NonZeroUsize::new(jobs as usize))
+        .ok_or_else(|| "it is a number from 1 on".to_string())
+}
+
+/// A number of digits alone; the standard library would take a sign too.
+fn number(digits: &str, radix: u32) -> Option<u32> {
+    let plain = digits.chars().all(|digit| digit.is_digit(radix));
+    u32::from_str_radix(digits, radix).ok().filter(|_| plain)
 }
 
 #[cfg(test)]
@@ -106,8 +171,17 @@ mod tests {
         assert_eq!(node_number("290"), Ok(290));
         assert_eq!(node_number("0x122"), Ok(290));
         assert_eq!(node_number("0XFFFFFFFF"), Ok(u32::MAX));
-        for wrong in ["", "0x", "-1", "122h", "0x100000000", "4294967296"] {
+        let wrong = ["", "0x", "-1", "+1", "0x+1", "0x-1", "122h", " 1"];
+        for wrong in wrong.iter().chain(&["0x100000000", "4294967296"]) {
             assert!(node_number(wrong).is_err(), "{wrong}");
+        }
+    }
+
+    #[test]
+    fn jobs_are_counted_from_1() {
+        assert_eq!(jobs("3"), Ok(NonZeroUsize::MIN.saturating_add(2)));
+        for wrong in ["0", "+2", "-1", "", "0x2", "two"] {
+            assert!(jobs(wrong).is_err(), "{wrong}");
         }
     }
 }

@@ -1,150 +1,228 @@
-use crate::explain::Spot;
-use crate::output::{At, Failure, Output};
+use crate::account::{Account, Spot};
+use crate::outcome::{Failure, Outcome};
+use crate::output::Output;
 use crate::progress;
+use crate::report::{Report, Stage, Tally, STAGES};
 use crate::source::Source;
-use crate::words::counted;
+use crate::tree::{Met, Tree};
+use crate::users::users;
+use crate::walk;
+use indicatif::ProgressBar;
 use rekwonuda::{Block, BlockId, Refusal};
-use serde_json::{json, Value};
+use serde_json::json;
+use std::collections::HashMap;
 
-/// What a stage found, for both kinds of answer.
-struct Finding {
-    text: String,
-    facts: Value,
+/// So many refused blocks are held at once, until the nodes that use them are found; and of so many
+/// data trees it is remembered what a read of them gave.
+const MOST_HELD: usize = 1 << 16;
+
+/// How a file is checked.
+#[derive(Clone, Copy, Debug)]
+pub struct Way {
+    /// Whether to go on past the first refusal.
+    pub all: bool,
+    /// Whether to show how far it has come.
+    pub progress: bool,
 }
 
-struct Check<'a> {
+struct Check<'a, 'b> {
     source: &'a Source,
-    out: &'a mut Output,
-    stages: Vec<Value>,
-    blocks: Vec<Block>,
+    out: &'a mut Output<'b>,
+    way: Way,
+    /// The name of the present stage.
+    stage: &'static str,
+    /// What the refusals of the present stage come to.
+    worst: Option<Outcome>,
+    decisive: Option<Account>,
+    stages: Vec<Stage>,
+    bar: ProgressBar,
 }
 
-/// Checks the header, both trees and every block, up to the first refusal.
-pub fn check(source: &Source, out: &mut Output) -> Result<(), Failure> {
-    out.account_for_refusals();
-    out.fact("file", source.name.as_str());
-    out.fact("size", source.size);
+/// Checks a file stage by stage, up to the first refusal or through to the end.
+pub fn check(source: &Source, way: Way, out: &mut Output<'_>) -> Result<Report, Failure> {
+    out.fact("size", source.size.map(|size| size.to_string()))?;
+    out.begin_list("refusals")?;
     let mut check = Check {
         source,
         out,
+        way,
+        stage: STAGES[0],
+        worst: None,
+        decisive: None,
         stages: Vec::new(),
-        blocks: Vec::new(),
+        bar: ProgressBar::hidden(),
     };
-    let result = check.all();
-    let stages = check.stages;
-    out.fact("accepted", result.is_ok());
-    out.fact("stages", stages);
-    result
+    check.run()?;
+    let report = Report::new(check.stages, check.decisive);
+    report.tell(way, out)?;
+    Ok(report)
 }
 
-impl Check<'_> {
-    fn all(&mut self) -> Result<(), Failure> {
-        self.stage("header", Check::header)?;
-        self.stage("node tree", Check::node_tree)?;
-        self.stage("block tree", Check::block_tree)?;
-        self.stage("blocks", Check::blocks)?;
-        self.out
-            .line("\naccepted: the header, both trees and every listed block are sound")
-    }
-
-    fn stage(
-        &mut self,
-        name: &str,
-        run: fn(&mut Self) -> Result<Finding, Failure>,
-    ) -> Result<(), Failure> {
-        let result = run(self);
-        let accepted = result.is_ok();
-        let mut facts = json!({"stage": name, "accepted": accepted});
-        let mut line = format!(
-            "{name:<12} {}",
-            if accepted { "accepted" } else { "refused" }
-        );
-        if let Ok(finding) = &result {
-            line += &format!("   {}", finding.text);
-            for (name, value) in finding.facts.as_object().into_iter().flatten() {
-                facts[name] = value.clone();
+impl Check<'_, '_> {
+    fn run(&mut self) -> Result<(), Failure> {
+        for name in STAGES {
+            self.worst = None;
+            self.stage = name;
+            let mut stage = match name {
+                "header" => self.header(),
+                "node tree" => self.tree(Tree::Nodes),
+                "block tree" => self.tree(Tree::Blocks),
+                "blocks" => self.blocks(),
+                _ => self.node_data(),
+            }?;
+            self.bar.finish_and_clear();
+            stage.name = name;
+            stage.outcome = self.worst;
+            self.out.line(stage.line())?;
+            self.stages.push(stage);
+            // Every call tests the header first.
+            let goes_on = self.way.all && name != "header";
+            if self.worst.is_some() && !goes_on {
+                break;
             }
         }
-        self.stages.push(facts);
-        self.out.line(line)?;
-        result.map(|_| ())
+        Ok(())
     }
 
-    fn header(&mut self) -> Result<Finding, Failure> {
-        let header = self.source.image().header().at(Spot::Header)?;
-        let method = header.method.to_string();
-        Ok(Finding {
-            text: format!("method {method}"),
-            facts: json!({ "method": method }),
-        })
-    }
-
-    fn node_tree(&mut self) -> Result<Finding, Failure> {
-        self.source.image().check_nodes().at(Spot::NodeTree)?;
-        let (nodes, level) = node_counts(self.source).at(Spot::NodeTree)?;
-        Ok(Finding {
-            text: format!("{}, level {level}", counted(nodes, "node")),
-            facts: json!({"nodes": nodes, "level": level}),
-        })
-    }
-
-    fn block_tree(&mut self) -> Result<Finding, Failure> {
-        let image = self.source.image();
-        image.check_blocks().at(Spot::BlockTree)?;
-        self.blocks = block_list(self.source).at(Spot::BlockTree)?;
-        let level = block_level(self.source, self.blocks.first()).at(Spot::BlockTree)?;
-        let blocks = self.blocks.len() as u64;
-        Ok(Finding {
-            text: format!("{}, level {level}", counted(blocks, "block")),
-            facts: json!({"blocks": blocks, "level": level}),
-        })
-    }
-
-    fn blocks(&mut self) -> Result<Finding, Failure> {
-        let image = self.source.image();
-        let bar = progress::bar(self.source, self.blocks.len() as u64);
-        let mut bytes = 0;
-        for block in bar.wrap_iter(self.blocks.iter()) {
-            bytes += image.test_block(block.id).at(Spot::Block(*block))? as u64;
+    /// Notes a refusal, and says whether the stage ends here.
+    fn refuse(&mut self, refusal: Refusal, spot: &Spot) -> Result<bool, Failure> {
+        let account = Account::new(self.source, refusal, spot);
+        let mut facts = account.facts();
+        facts["stage"] = self.stage.into();
+        self.out.entry(&facts)?;
+        if self.way.all {
+            self.row(&format!("  {}", account.line()))?;
         }
-        let blocks = self.blocks.len() as u64;
-        Ok(Finding {
-            text: format!(
-                "{} tested, {}",
-                counted(blocks, "block"),
-                counted(bytes, "byte")
-            ),
-            facts: json!({"blocks": blocks, "bytes": bytes}),
-        })
+        let outcome = account.outcome;
+        self.worst = self.worst.max(Some(outcome));
+        if self.decisive.as_ref().map(|other| other.outcome) < Some(outcome) {
+            self.decisive = Some(account);
+        }
+        Ok(self.broke_off())
     }
-}
 
-/// How many nodes there are, and the level of their tree's root.
-pub fn node_counts(source: &Source) -> Result<(u64, u64), Refusal> {
-    let image = source.image();
-    let bar = progress::spinner(source, "listing nodes");
-    let mut first = None;
-    let mut count = 0;
-    for node in bar.wrap_iter(image.nodes()) {
-        first = first.or(Some(node?.id));
-        count += 1;
+    /// Writes a line while a bar may be shown.
+    fn row(&mut self, text: &str) -> Result<(), Failure> {
+        if self.bar.is_hidden() {
+            return self.out.row(text);
+        }
+        self.bar.suspend(|| self.out.line(text))
     }
-    let path = image.find_node(first.unwrap_or_default())?.pages;
-    Ok((count, path - 1))
-}
 
-/// All blocks, in the order of their numbers.
-pub fn block_list(source: &Source) -> Result<Vec<Block>, Refusal> {
-    let bar = progress::spinner(source, "listing blocks");
-    let blocks = bar.wrap_iter(source.image().blocks()).collect();
-    blocks
-}
+    fn header(&mut self) -> Result<Stage, Failure> {
+        match self.source.image().header() {
+            Ok(header) => {
+                let method = header.method.to_string();
+                Ok(Stage::new(
+                    format!("method {method}"),
+                    json!({ "method": method }),
+                ))
+            }
+            Err(refusal) => {
+                self.refuse(refusal, &Spot::Header)?;
+                Ok(Stage::default())
+            }
+        }
+    }
 
-/// The level of the block tree's root: a block that is there has a path from the root to a leaf.
-pub fn block_level(source: &Source, first: Option<&Block>) -> Result<u64, Refusal> {
-    let path = source
-        .image()
-        .find_block(first.map_or(BlockId(0), |block| block.id))?
-        .pages;
-    Ok(path - 1)
+    /// Checks a tree, and counts its entries and the pages that are refused.
+    fn tree(&mut self, tree: Tree) -> Result<Stage, Failure> {
+        let (mut met, mut pages) = (Met::default(), 0);
+        let checked = tree.check(self.source);
+        if let Err(refusal) = checked {
+            pages += 1;
+            if self.refuse(refusal, &tree.spot())? {
+                return Ok(Stage::default());
+            }
+        }
+        self.bar = progress::spinner(self.way.progress, format!("listing {}s", tree.noun()));
+        for number in self.bar.clone().wrap_iter(tree.numbers(self.source)) {
+            match number {
+                Ok(number) => met.add(number),
+                Err(refusal) if checked == Err(refusal) => {}
+                Err(refusal) => {
+                    pages += 1;
+                    self.refuse(refusal, &tree.spot())?;
+                }
+            }
+        }
+        let level = tree.level(self.source, &met).unwrap_or(0);
+        Ok(Stage::listing(tree.noun(), met.entries, level, pages))
+    }
+
+    fn blocks(&mut self) -> Result<Stage, Failure> {
+        let image = self.source.image();
+        let mut tally = Tally::of("block");
+        let mut held = Vec::new();
+        self.bar = progress::bar(self.way.progress, self.count("blocks"), "testing blocks");
+        for block in self
+            .bar
+            .clone()
+            .wrap_iter(walk::blocks(self.source).flatten())
+        {
+            if let Err(refusal) = tally.note(image.test_block(block.id)) {
+                held.push((block, refusal));
+                if !self.way.all || held.len() == MOST_HELD {
+                    self.refuse_blocks(&mut held)?;
+                }
+                if self.broke_off() {
+                    break;
+                }
+            }
+        }
+        self.refuse_blocks(&mut held)?;
+        Ok(Stage::testing(&tally, self.broke_off()))
+    }
+
+    /// Notes refused blocks along with the nodes that use them.
+    fn refuse_blocks(&mut self, held: &mut Vec<(Block, Refusal)>) -> Result<(), Failure> {
+        if held.is_empty() {
+            return Ok(());
+        }
+        let numbers: Vec<BlockId> = held.iter().map(|(block, _)| block.id).collect();
+        let users = users(self.source, &numbers);
+        for ((block, refusal), users) in held.drain(..).zip(users) {
+            self.refuse(refusal, &Spot::Block(block, users))?;
+        }
+        Ok(())
+    }
+
+    /// Reads the data of every node through, without a buffer. Nodes that name one data tree share one
+    /// read of it, so that a small file with many such nodes does not take for ever.
+    fn node_data(&mut self) -> Result<Stage, Failure> {
+        let image = self.source.image();
+        let mut tally = Tally::of("node");
+        let mut known = HashMap::new();
+        self.bar = progress::bar(self.way.progress, self.count("nodes"), "reading nodes");
+        for node in self
+            .bar
+            .clone()
+            .wrap_iter(walk::nodes(self.source).flatten())
+        {
+            let tested = match known.get(&node.data) {
+                Some(tested) => *tested,
+                None => image.test_node(node.id).map(Option::unwrap_or_default),
+            };
+            if node.has_data_tree() && known.len() < MOST_HELD {
+                known.insert(node.data, tested);
+            }
+            if let Err(refusal) = tally.note(tested) {
+                if self.refuse(refusal, &Spot::Data(node))? {
+                    break;
+                }
+            }
+        }
+        Ok(Stage::testing(&tally, self.broke_off()))
+    }
+
+    /// What an earlier stage counted.
+    fn count(&self, what: &str) -> u64 {
+        let mut counts = self.stages.iter().filter_map(|stage| stage.count(what));
+        counts.next().unwrap_or(0)
+    }
+
+    /// Whether the stage ended with its first refusal.
+    fn broke_off(&self) -> bool {
+        !self.way.all && self.worst == Some(Outcome::Damaged)
+    }
 }

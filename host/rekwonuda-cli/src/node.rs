@@ -1,67 +1,71 @@
+use crate::account::Spot;
 use crate::args::NodeArguments;
-use crate::explain::Spot;
-use crate::output::{At, Failure, Output};
+use crate::names;
+use crate::outcome::{At, Failure, Outcome};
+use crate::output::Output;
 use crate::source::Source;
 use crate::words::{counted, hex, spaced_hex};
+use crate::write::Target;
 use rekwonuda::{Node, NodeId};
-use std::fs;
 use std::io::{stdout, IsTerminal};
 use std::path::Path;
 
 const PREVIEW: usize = 256;
 
 /// Hands out the data of a node.
-pub fn node(source: &Source, arguments: &NodeArguments, out: &mut Output) -> Result<(), Failure> {
-    let (_, data) = read(source, arguments.node, out)?;
-    out.fact("length", data.len());
-    if let Some(path) = &arguments.output {
-        return write_to(path, &data, out);
-    }
-    if out.is_json() {
-        out.fact("data", hex(&data));
-        Ok(())
-    } else if stdout().is_terminal() {
-        preview(&data, out)
+pub fn node(
+    source: &Source,
+    arguments: &NodeArguments,
+    out: &mut Output<'_>,
+) -> Result<Outcome, Failure> {
+    let output = arguments.output.as_deref();
+    let file = output.filter(|path| !names::is_standard(path));
+    let target = file
+        .map(|path| Target::new(path, source.identity(), arguments.force))
+        .transpose()?;
+    out.fact("node", arguments.node)?;
+    let (_, data) = read(source, arguments.node)?;
+    out.fact("length", data.len())?;
+    if let (Some(path), Some(target)) = (file, target) {
+        target.write(&data)?;
+        told(path, &data, out)?;
+    } else if out.is_json() {
+        out.fact("data", hex(&data))?;
+    } else if output.is_none() && stdout().is_terminal() {
+        preview(&data, out)?;
     } else {
-        out.bytes(&data)
+        out.bytes(&data)?;
     }
+    Ok(Outcome::Done)
 }
 
 /// Looks up a node and reads its data.
-pub fn read(source: &Source, number: u32, out: &mut Output) -> Result<(Node, Vec<u8>), Failure> {
+pub fn read(source: &Source, number: u32) -> Result<(Node, Vec<u8>), Failure> {
     let image = source.image();
-    out.fact("node", number);
-    let found = image.find_node(NodeId(number)).at(Spot::NodeTree)?.entry;
-    out.fact("found", found.is_some());
+    let id = NodeId(number);
     let absent = || {
-        Failure::Absent(format!("node {number:#x} is absent: the node tree is sound as far as it was read, and does not list it"))
+        Failure::Absent(format!(
+            "node {id} is absent: the node tree is sound as far as it was read, and does not list it"
+        ))
     };
-    let node = found.ok_or_else(absent)?;
-    let data = image.node_data(NodeId(number)).at(Spot::Data(node))?;
+    let found = image.find_node(id).at(Spot::NodeTree)?;
+    let node = found.entry.ok_or_else(absent)?;
+    let data = image.node_data(id).at(Spot::Data(node))?;
     Ok((node, data.ok_or_else(absent)?))
 }
 
-fn write_to(path: &Path, data: &[u8], out: &mut Output) -> Result<(), Failure> {
-    let name = path.display().to_string();
-    fs::write(path, data)
-        .map_err(|error| Failure::Trouble(format!("cannot write {name}: {error}")))?;
-    out.line(format!(
-        "{} written to {name}",
-        counted(data.len() as u64, "byte")
-    ))?;
-    out.fact("output", name);
-    Ok(())
+fn told(path: &Path, data: &[u8], out: &mut Output<'_>) -> Result<(), Failure> {
+    let length = counted(data.len() as u64, "byte");
+    out.line(format!("{length} written to {}", names::shown(path)))?;
+    out.name("output", path)
 }
 
-fn preview(data: &[u8], out: &mut Output) -> Result<(), Failure> {
+fn preview(data: &[u8], out: &mut Output<'_>) -> Result<(), Failure> {
     let shown = &data[..data.len().min(PREVIEW)];
     for (row, bytes) in shown.chunks(16).enumerate() {
         let text: String = bytes.iter().map(|byte| printed(*byte)).collect();
-        out.line(format!(
-            "{:06x}  {:<47}  {text}",
-            row * 16,
-            spaced_hex(bytes)
-        ))?;
+        let offset = row * 16;
+        out.row(format!("{offset:06x}  {:<47}  {text}", spaced_hex(bytes)))?;
     }
     let rest = if data.len() > PREVIEW {
         ", the first 256 shown"

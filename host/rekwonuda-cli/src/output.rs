@@ -1,228 +1,207 @@
-use crate::explain::{explain, Spot};
+use crate::account::Account;
+use crate::names;
+use crate::outcome::{Failure, Outcome};
 use crate::source::Source;
-use crate::words::wrapped;
-use rekwonuda::Refusal;
-use serde_json::{json, Map, Value};
+use serde_json::{json, Value};
 use std::fmt::Display;
-use std::io::{self, BufWriter, ErrorKind, Stdout, Write};
+use std::io::{self, BufWriter, IsTerminal, Write};
+use std::path::Path;
 
-const TEXT_WIDTH: usize = 76;
+/// The version of the shape that docs/JSON.md describes.
+const VERSION: u64 = 1;
 
-/// Why a command does not end well.
-pub enum Failure {
-    /// The library refused, while it read that part of the file.
-    Refused(Refusal, Spot),
-    /// What was asked for is not there.
-    Absent(String),
-    /// Wrong usage, or a file cannot be read or written.
-    Trouble(String),
-    /// Nobody reads standard output any more.
-    Unread,
+#[derive(Clone, Copy, Debug, PartialEq, Eq)]
+pub enum Form {
+    /// Lines for a reader.
+    Text,
+    /// One JSON object on one line.
+    Json,
+    /// Nothing: somebody else says what came out.
+    Silent,
 }
 
-/// Names the part of the file that a call was about, for the case that it refuses.
-pub trait At<T> {
-    fn at(self, spot: Spot) -> Result<T, Failure>;
-}
-
-impl<T> At<T> for Result<T, Refusal> {
-    fn at(self, spot: Spot) -> Result<T, Failure> {
-        self.map_err(|refusal| Failure::Refused(refusal, spot))
-    }
-}
-
-impl From<io::Error> for Failure {
-    fn from(error: io::Error) -> Failure {
-        match error.kind() {
-            ErrorKind::BrokenPipe => Failure::Unread,
-            _ => Failure::Trouble(format!("cannot write: {error}")),
-        }
-    }
-}
-
-/// Standard output: lines of text as they come, or JSON.
-pub struct Output {
-    out: BufWriter<Stdout>,
-    json: bool,
-    facts: Map<String, Value>,
-    /// How many entries of a JSON array are written, where the answer is a list.
+/// Where an answer goes, as it comes.
+pub struct Output<'a> {
+    sink: Box<dyn Write + Send + 'a>,
+    form: Form,
+    /// How many entries of the open list of the JSON object are written.
     entries: Option<u64>,
-    /// Whether the account of a refusal is the answer, and so belongs on standard output.
-    accounts: bool,
+    /// Whether the JSON object has its refusals already.
+    has_refusals: bool,
 }
 
-impl Output {
-    pub fn new(json: bool) -> Output {
-        Output {
-            out: BufWriter::new(io::stdout()),
-            json,
-            facts: Map::new(),
+impl<'a> Output<'a> {
+    /// An answer to that command.
+    pub fn new(
+        form: Form,
+        sink: impl Write + Send + 'a,
+        command: Option<&str>,
+    ) -> Result<Output<'a>, Failure> {
+        let mut out = Output {
+            sink: Box::new(sink),
+            form,
             entries: None,
-            accounts: false,
+            has_refusals: false,
+        };
+        if form == Form::Json {
+            let command = Value::from(command);
+            write!(out.sink, "{{\"version\":{VERSION},\"command\":{command}")?;
         }
+        Ok(out)
+    }
+
+    pub fn standard(form: Form, command: Option<&str>) -> Result<Output<'static>, Failure> {
+        Output::new(form, BufWriter::new(io::stdout()), command)
     }
 
     pub fn is_json(&self) -> bool {
-        self.json
+        self.form == Form::Json
     }
 
-    /// Says that a refusal is what the user asked to be told.
-    pub fn account_for_refusals(&mut self) {
-        self.accounts = true;
+    /// Whether something shown on standard error may stand where the answer is written: not in the
+    /// midst of an unfinished line on a terminal.
+    pub fn bears_progress(&self) -> bool {
+        !self.is_json() || !io::stdout().is_terminal()
     }
 
-    /// Says that the answer is a list.
-    pub fn begin_list(&mut self) {
-        self.entries = Some(0);
-    }
-
-    /// Writes a line, unless the answer is JSON.
+    /// Writes a line of text, to be seen at once.
     pub fn line(&mut self, text: impl Display) -> Result<(), Failure> {
-        if !self.json {
-            writeln!(self.out, "{text}")?;
+        self.row(text)?;
+        Ok(self.sink.flush()?)
+    }
+
+    /// Writes a line of text, one of many.
+    pub fn row(&mut self, text: impl Display) -> Result<(), Failure> {
+        if self.form == Form::Text {
+            writeln!(self.sink, "{text}")?;
         }
         Ok(())
     }
 
     /// Writes bytes as they are.
     pub fn bytes(&mut self, bytes: &[u8]) -> Result<(), Failure> {
-        Ok(self.out.write_all(bytes)?)
+        Ok(self.sink.write_all(bytes)?)
     }
 
     /// Adds a field to the JSON object.
-    pub fn fact(&mut self, name: &str, value: impl Into<Value>) {
-        self.facts.insert(name.to_string(), value.into());
+    pub fn fact(&mut self, name: &str, value: impl Into<Value>) -> Result<(), Failure> {
+        if self.is_json() {
+            write!(self.sink, ",{}:{}", Value::from(name), value.into())?;
+        }
+        Ok(())
     }
 
-    /// Writes one entry of the JSON array.
+    /// Adds the name of a file to the JSON object.
+    pub fn name(&mut self, key: &str, path: &Path) -> Result<(), Failure> {
+        for (name, value) in names::fields(key, path) {
+            self.fact(&name, value)?;
+        }
+        Ok(())
+    }
+
+    /// Begins a list in the JSON object.
+    pub fn begin_list(&mut self, name: &str) -> Result<(), Failure> {
+        self.entries = Some(0);
+        self.has_refusals |= name == "refusals";
+        if self.is_json() {
+            write!(self.sink, ",{}:[", Value::from(name))?;
+        }
+        Ok(())
+    }
+
+    /// Writes one entry of the open list.
     pub fn entry(&mut self, entry: &Value) -> Result<(), Failure> {
-        let before = self.entries.unwrap_or(0);
-        self.entries = Some(before + 1);
-        let lead = if before == 0 { "[\n" } else { ",\n" };
-        write!(self.out, "{lead}{entry}")?;
+        if self.is_json() {
+            let comma = if self.entries == Some(0) { "" } else { "," };
+            write!(self.sink, "{comma}{entry}")?;
+        }
+        self.entries = self.entries.map(|before| before + 1);
         Ok(())
     }
 
-    /// Ends the answer and says the exit status.
-    pub fn finish(mut self, source: &Source, result: Result<(), Failure>) -> u8 {
-        let status = match &result {
-            Ok(()) => 0,
-            Err(Failure::Refused(..) | Failure::Absent(_)) => 1,
-            Err(Failure::Trouble(_) | Failure::Unread) => 2,
-        };
+    pub fn end_list(&mut self) -> Result<(), Failure> {
+        if self.entries.take().is_some() && self.is_json() {
+            write!(self.sink, "]")?;
+        }
+        Ok(())
+    }
+
+    /// Ends the answer, and says how the command ended.
+    pub fn finish(mut self, source: Option<&Source>, result: Result<Outcome, Failure>) -> Outcome {
         match self.end(source, result) {
-            Ok(()) => status,
-            Err(Failure::Trouble(message)) => {
-                eprintln!("rekwonuda: {message}");
-                2
+            Ok(outcome) => outcome,
+            Err(Failure::Error(message)) => {
+                complain(&message);
+                Outcome::Error
             }
-            Err(_) => 2,
+            Err(_) => Outcome::Error,
         }
     }
 
-    fn end(&mut self, source: &Source, result: Result<(), Failure>) -> Result<(), Failure> {
-        match result {
-            Ok(()) => self.end_json()?,
-            Err(Failure::Refused(refusal, spot)) => {
-                self.refused(&Account::new(source, refusal, &spot))?;
+    fn end(
+        &mut self,
+        source: Option<&Source>,
+        result: Result<Outcome, Failure>,
+    ) -> Result<Outcome, Failure> {
+        self.end_list()?;
+        let (outcome, message) = match (result, source) {
+            (Ok(outcome), _) => (outcome, None),
+            (Err(Failure::Refused(refusal, spot)), Some(source)) => {
+                let account = Account::new(source, refusal, &spot);
+                self.refused(&account)?;
+                (account.outcome, None)
             }
-            Err(Failure::Absent(message)) => {
-                eprintln!("rekwonuda: {message}");
-                self.end_json()?;
-            }
-            Err(failure) => return Err(failure),
+            (Err(Failure::Absent(message)), _) => (Outcome::Absent, Some(message)),
+            (Err(Failure::NotCovered(message)), _) => (Outcome::NotCovered, Some(message)),
+            (Err(Failure::Error(message)), _) => (Outcome::Error, Some(message)),
+            (Err(failure), _) => return Err(failure),
+        };
+        if let Some(message) = message {
+            self.message(&message)?;
         }
-        Ok(self.out.flush()?)
+        self.close(outcome)?;
+        Ok(outcome)
     }
 
-    fn end_json(&mut self) -> Result<(), Failure> {
-        match (self.json, self.entries) {
-            (false, _) => {}
-            (true, None) => writeln!(self.out, "{:#}", Value::Object(self.facts.clone()))?,
-            (true, Some(0)) => writeln!(self.out, "[]")?,
-            (true, Some(_)) => writeln!(self.out, "\n]")?,
-        }
-        Ok(())
-    }
-
+    /// What the library refused, on standard error or in the JSON object.
     fn refused(&mut self, account: &Account) -> Result<(), Failure> {
-        if !self.json {
-            return self.tell(&account.text());
-        }
-        if self.entries.is_some() {
-            self.entry(&Value::Object(account.facts()))?;
+        self.sink.flush()?;
+        if self.is_json() {
+            self.begin_list("refusals")?;
+            self.entry(&account.facts())?;
+            self.end_list()
         } else {
-            self.facts.extend(account.facts());
+            complain_plainly(&account.text());
+            Ok(())
         }
-        self.end_json()
     }
 
-    fn tell(&mut self, text: &str) -> Result<(), Failure> {
-        if self.accounts {
-            write!(self.out, "\n{text}")?;
-        } else {
-            self.out.flush()?;
-            eprint!("{text}");
+    fn message(&mut self, message: &str) -> Result<(), Failure> {
+        self.sink.flush()?;
+        if self.form == Form::Text {
+            complain(message);
         }
-        Ok(())
+        self.fact("message", message)
+    }
+
+    fn close(&mut self, outcome: Outcome) -> Result<(), Failure> {
+        if !self.has_refusals {
+            self.fact("refusals", json!([]))?;
+        }
+        self.fact("outcome", outcome.word())?;
+        self.fact("status", outcome.status())?;
+        if self.is_json() {
+            writeln!(self.sink, "}}")?;
+        }
+        Ok(self.sink.flush()?)
     }
 }
 
-/// A refusal in words: what is wrong, where, and what to do next.
-struct Account {
-    refusal: Refusal,
-    lies_there: String,
-    advice: String,
+/// Says on standard error what went wrong. Where that cannot be written, there is nobody to tell.
+pub fn complain(message: &str) {
+    complain_plainly(&format!("rekwonuda: {message}\n"));
 }
 
-impl Account {
-    fn new(source: &Source, refusal: Refusal, spot: &Spot) -> Account {
-        let (lies_there, advice) = explain(source, &refusal, spot);
-        Account {
-            refusal,
-            lies_there,
-            advice,
-        }
-    }
-
-    fn text(&self) -> String {
-        let number = format!("refusal {}", self.refusal.number());
-        let meaning = format!("{} ({number})", self.refusal.meaning());
-        let parts = [
-            ("What is wrong", &meaning),
-            ("Where", &self.lies_there),
-            ("What to do", &self.advice),
-        ];
-        let mut text = String::new();
-        for (name, words) in parts {
-            let lead = format!("{name}:\n    ");
-            text += &lead;
-            text += &wrapped(&capital(words), TEXT_WIDTH).join("\n    ");
-            text.push('\n');
-        }
-        text
-    }
-
-    fn facts(&self) -> Map<String, Value> {
-        let facts = json!({
-            "refusal": self.refusal.number(),
-            "place": self.refusal.place,
-            "more": self.refusal.more,
-            "meaning": self.refusal.meaning(),
-            "where": self.lies_there,
-            "advice": self.advice,
-        });
-        match facts {
-            Value::Object(map) => map,
-            _ => Map::new(),
-        }
-    }
-}
-
-fn capital(text: &str) -> String {
-    let mut characters = text.chars();
-    match characters.next() {
-        Some(first) => first.to_uppercase().chain(characters).collect(),
-        None => String::new(),
-    }
+pub fn complain_plainly(text: &str) {
+    let _ = io::stderr().write_all(text.as_bytes());
 }

@@ -1,10 +1,12 @@
+use crate::account::Spot;
 use crate::args::PropsArguments;
-use crate::explain::Spot;
+use crate::list::Table;
 use crate::node::read;
-use crate::output::{At, Failure, Output};
+use crate::outcome::{At, Failure, Outcome};
+use crate::output::Output;
 use crate::source::Source;
-use crate::words::{counted, hex, property_type};
-use rekwonuda::{Heap, Property, Refusal, Value};
+use crate::words::{counted, hex, node_type, property_type, spaced_hex};
+use rekwonuda::{Heap, Node, Property, Refusal, Value};
 use serde_json::json;
 
 const PREVIEW: usize = 32;
@@ -12,56 +14,83 @@ const TEXT: u16 = 0x1F;
 const TEXT_8: u16 = 0x1E;
 const BOOLEAN: u16 = 0x0B;
 
+/// The third byte of a heap; the fourth is its client kind.
+const HEAP_MARK: u8 = 0xEC;
+
 /// Lists the properties of a node, by a lookup of every id that there can be.
-pub fn props(source: &Source, arguments: &PropsArguments, out: &mut Output) -> Result<(), Failure> {
-    let (node, data) = read(source, arguments.node, out)?;
+pub fn props(
+    source: &Source,
+    arguments: &PropsArguments,
+    out: &mut Output<'_>,
+) -> Result<Outcome, Failure> {
+    out.fact("node", arguments.node)?;
+    let (node, data) = read(source, arguments.node)?;
+    is_covered(source, &node, &data)?;
     let heap = Heap::new(&data);
-    let mut rows = Vec::new();
-    out.line(format!("{:<7} {:<22} value", "id", "type"))?;
-    let mut result = Ok(());
-    for id in 0..=u16::MAX {
-        match property(heap, id) {
-            Ok(None) => {}
-            Ok(Some(row)) => {
-                out.line(format!(
-                    "{id:#06x}  {:<22} {}",
-                    property_type(row.type_code),
-                    row.text
-                ))?;
-                rows.push(row.facts);
-            }
-            Err(refusal) => {
-                result = Err(refusal);
-                break;
-            }
-        }
+    let spot = || Spot::Heap(node, data.len());
+    heap.test().at(spot())?;
+    out.begin_list("properties")?;
+    let mut table = Table::new(format!("{:<7} {:<22} value", "id", "type"));
+    for found in heap.properties() {
+        let found = found.at(spot())?;
+        let (facts, text) = property(heap, &found).at(spot())?;
+        out.entry(&facts)?;
+        let kind = property_type(found.type_code);
+        table.row(&format!("{:#06x}  {kind:<22} {text}", found.id), out)?;
     }
-    out.fact("properties", rows);
-    result.at(Spot::Heap(node, data.len()))
+    table.end(out)
 }
 
-/// One property, for both kinds of answer.
-struct Row {
-    type_code: u16,
-    text: String,
-    facts: serde_json::Value,
-}
-
-fn property(heap: Heap<'_>, id: u16) -> Result<Option<Row>, Refusal> {
-    let Some(found) = heap.find_property(id)? else {
-        return Ok(None);
+/// Whether the data is a property heap on one block. Which it is stands in the data tree and in the
+/// head of the data; whether it is sound, the library says.
+fn is_covered(source: &Source, node: &Node, data: &[u8]) -> Result<(), Failure> {
+    let blocks = match node.data {
+        Some(data) => source.image().data_blocks(data).at(Spot::Data(*node))?,
+        None => Vec::new(),
     };
+    let blocks = blocks.len() as u64;
+    let held = format!(
+        "{} in {}",
+        counted(data.len() as u64, "byte"),
+        counted(blocks, "block")
+    );
+    let what = match (data.get(2), data.get(3)) {
+        (Some(&HEAP_MARK), Some(&Heap::PROPERTIES)) if blocks == 1 => return Ok(()),
+        (Some(&HEAP_MARK), Some(&Heap::PROPERTIES)) => {
+            format!("is a property heap of several blocks, which is not covered: {held}")
+        }
+        (Some(&HEAP_MARK), Some(kind)) => format!(
+            "is no property heap: its data, {held}, begins as a heap of client kind {kind:#04x} \
+             does ({}), and properties stand in one of kind 0xbc",
+            client_kind(*kind)
+        ),
+        (Some(_), _) => format!(
+            "is no property heap: its data, {held}, begins with {}, and the third byte of a heap is ec",
+            spaced_hex(&data[..data.len().min(4)])
+        ),
+        _ if blocks == 0 => "is no property heap: it has no data".to_string(),
+        _ => format!("is no property heap: its data is {held}, and the head of a heap is 12 bytes"),
+    };
+    let named = format!("node {} ({})", node.id, node_type(node.id));
+    Err(Failure::NotCovered(format!("{named} {what}")))
+}
+
+fn client_kind(kind: u8) -> &'static str {
+    match kind {
+        Heap::TABLE => "a table",
+        _ => "not known here",
+    }
+}
+
+/// A property for both kinds of answer.
+fn property(heap: Heap<'_>, found: &Property) -> Result<(serde_json::Value, String), Refusal> {
     let mut facts = json!({
-        "id": id,
+        "id": found.id,
         "type": found.type_code,
         "type_name": property_type(found.type_code),
     });
-    let text = value(heap, &found, &mut facts)?;
-    Ok(Some(Row {
-        type_code: found.type_code,
-        text,
-        facts,
-    }))
+    let text = value(heap, found, &mut facts)?;
+    Ok((facts, text))
 }
 
 fn value(

@@ -1,29 +1,20 @@
 //! Numbers, texts and the names of types, as a reader wants to see them.
 
+use indicatif::HumanCount;
 use rekwonuda::NodeId;
 
-/// 1234567 as "1,234,567".
-pub fn grouped(number: u64) -> String {
-    let digits = number.to_string();
-    let mut text = String::new();
-    for (at, digit) in digits.chars().enumerate() {
-        if at > 0 && (digits.len() - at).is_multiple_of(3) {
-            text.push(',');
-        }
-        text.push(digit);
-    }
-    text
-}
+/// The widest that running text gets; a narrower terminal is kept to.
+const WIDEST: usize = 80;
 
 /// An offset in both notations.
 pub fn place(offset: u64) -> String {
-    format!("{offset:#x} ({})", grouped(offset))
+    format!("{offset:#x} ({})", HumanCount(offset))
 }
 
 /// "1 node", "2 nodes".
 pub fn counted(number: u64, noun: &str) -> String {
     let plural = if number == 1 { "" } else { "s" };
-    format!("{} {noun}{plural}", grouped(number))
+    format!("{} {noun}{plural}", HumanCount(number))
 }
 
 pub fn hex(bytes: &[u8]) -> String {
@@ -36,21 +27,20 @@ pub fn spaced_hex(bytes: &[u8]) -> String {
     words.join(" ")
 }
 
-/// The words of the text in lines of at most `width` characters.
-pub fn wrapped(text: &str, width: usize) -> Vec<String> {
-    let mut lines = vec![String::new()];
-    for word in text.split_whitespace() {
-        let line = lines.last_mut().expect("there is always a line");
-        if line.is_empty() {
-            line.push_str(word);
-        } else if line.chars().count() + 1 + word.chars().count() <= width {
-            line.push(' ');
-            line.push_str(word);
-        } else {
-            lines.push(word.to_string());
-        }
+/// A paragraph, each of its lines indented.
+pub fn indented(text: &str) -> String {
+    let options = textwrap::Options::new(textwrap::termwidth().min(WIDEST))
+        .initial_indent("    ")
+        .subsequent_indent("    ");
+    textwrap::fill(text, options)
+}
+
+pub fn capital(text: &str) -> String {
+    let mut characters = text.chars();
+    match characters.next() {
+        Some(first) => first.to_uppercase().chain(characters).collect(),
+        None => String::new(),
     }
-    lines
 }
 
 /// The type of a node by the low five bits of its number.
@@ -137,18 +127,9 @@ mod tests {
 
     #[test]
     fn numbers_are_grouped_by_three() {
-        assert_eq!(grouped(0), "0");
-        assert_eq!(grouped(999), "999");
-        assert_eq!(grouped(1_000), "1,000");
-        assert_eq!(grouped(1_073_741_824), "1,073,741,824");
         assert_eq!(place(27_136), "0x6a00 (27,136)");
-    }
-
-    #[test]
-    fn lines_keep_to_their_width() {
-        assert_eq!(wrapped("one two three", 7), ["one two", "three"]);
-        assert_eq!(wrapped("unbreakable", 3), ["unbreakable"]);
-        assert_eq!(wrapped("", 3), [""]);
+        assert_eq!(counted(1, "byte"), "1 byte");
+        assert_eq!(counted(1_073_741_824, "byte"), "1,073,741,824 bytes");
     }
 
     #[test]

@@ -1,0 +1,106 @@
+use crate::advice::{advice, meaning, outcome};
+use crate::outcome::Outcome;
+use crate::place::lies_there;
+use crate::source::Source;
+use crate::users::Users;
+use crate::words::{capital, indented};
+use rekwonuda::{Block, Node, Refusal};
+use serde_json::{json, Value};
+
+/// The part of the file that a call was about. What is wrong with the header is told by its place, from
+/// whichever call it comes.
+#[derive(Clone, Debug)]
+pub enum Spot {
+    Header,
+    NodeTree,
+    BlockTree,
+    Block(Block, Users),
+    Data(Node),
+    /// A heap in the data of a node, with the length of that data.
+    Heap(Node, usize),
+}
+
+/// A refusal in words: what is wrong, where, and what to do next.
+#[derive(Clone, Debug)]
+pub struct Account {
+    pub outcome: Outcome,
+    refusal: Refusal,
+    meaning: &'static str,
+    lies_there: String,
+    advice: &'static str,
+    /// The blocks and nodes that it is about, for JSON.
+    about: Vec<(&'static str, Value)>,
+}
+
+impl Account {
+    pub fn new(source: &Source, refusal: Refusal, spot: &Spot) -> Account {
+        Account {
+            outcome: outcome(source, &refusal, spot),
+            refusal,
+            meaning: meaning(source, &refusal),
+            lies_there: lies_there(source, &refusal, spot),
+            advice: advice(source, &refusal, spot),
+            about: about(spot),
+        }
+    }
+
+    pub fn text(&self) -> String {
+        let meaning = format!("{} (refusal {})", self.meaning, self.refusal.number());
+        let what = match self.outcome {
+            Outcome::NotCovered => "What is not covered",
+            _ => "What is wrong",
+        };
+        let parts = [
+            (what, meaning.as_str()),
+            ("Where", &self.lies_there),
+            ("What to do", self.advice),
+        ];
+        parts
+            .iter()
+            .map(|(name, words)| format!("{name}:\n{}\n", indented(&capital(words))))
+            .collect()
+    }
+
+    /// What is wrong and where, in one line.
+    pub fn line(&self) -> String {
+        let number = self.refusal.number();
+        let meaning = capital(self.meaning);
+        format!("{}. {meaning} (refusal {number})", self.lies_there)
+    }
+
+    /// What to do, as the last part of a list of several.
+    pub fn advice(&self) -> String {
+        format!("What to do:\n{}\n", indented(self.advice))
+    }
+
+    pub fn facts(&self) -> Value {
+        let mut facts = json!({
+            "number": self.refusal.number(),
+            "place": self.refusal.place.to_string(),
+            "more": self.refusal.more.to_string(),
+            "outcome": self.outcome.word(),
+            "meaning": self.meaning,
+            "where": self.lies_there,
+            "advice": self.advice,
+        });
+        for (name, value) in &self.about {
+            facts[*name] = value.clone();
+        }
+        facts
+    }
+}
+
+fn about(spot: &Spot) -> Vec<(&'static str, Value)> {
+    match spot {
+        Spot::Header | Spot::NodeTree | Spot::BlockTree => Vec::new(),
+        Spot::Block(block, users) => vec![
+            ("block", block.id.0.to_string().into()),
+            (
+                "nodes",
+                json!(users.first.iter().map(|node| node.0).collect::<Vec<_>>()),
+            ),
+            ("node_count", users.count.into()),
+        ],
+        Spot::Data(node) | Spot::Heap(node, _) => vec![("node", node.id.0.into())],
+    }
+}

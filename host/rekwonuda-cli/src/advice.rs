@@ -1,0 +1,127 @@
+//! What a refusal means for a file: whether it is damaged, and what to do next.
+
+use crate::account::Spot;
+use crate::outcome::Outcome;
+use crate::source::Source;
+use rekwonuda::{Fault, Refusal};
+
+/// How many bytes the header's first checksum covers, from byte 8 on. It is the same in all editions.
+pub const FIRST_SUMMED: usize = 471;
+
+const NEW_COPY: &str = "The file is damaged or was cut short in transfer. Ask for a fresh copy, \
+    made while Outlook was closed, or have the sender run Microsoft's scanpst.exe on it. Do not open \
+    it with a reader that repairs silently: what that shows need not be what was written.";
+const TOO_SHORT: &str =
+    "This cannot be a .pst file: the copy is empty or broke off at once, or it \
+    is another kind of file. Ask for a fresh copy and compare the sizes.";
+const TOO_LONG: &str = "This reader takes files of up to 1 GiB (1,073,741,824 bytes), and says \
+    nothing about whether this one is sound. Have its owner move part of the mail into a second data \
+    file in Outlook.";
+const NO_PST: &str = "This is not a .pst file, or its beginning was overwritten. Check that it is \
+    the file you meant; one that came in an archive (.zip, .7z) must be unpacked first.";
+const OTHER_STORE: &str =
+    "This is another kind of Outlook file, such as an offline store (.ost) or \
+    an address book, or its beginning was overwritten. Have its owner export it as a .pst file.";
+const OTHER_EDITION: &str =
+    "This reader covers the 64-bit Unicode edition, and says nothing about whether this file is \
+    sound. Have its owner import it into a new data file with a current Outlook, which writes that \
+    edition.";
+const EDITION_OR_DAMAGE: &str =
+    "This may be damage: the header's first checksum does not fit either, so that its bytes are not \
+    those that were written, and the version may be one of them. Ask for a fresh copy. If it says \
+    the same, have its owner import the file into a new data file with a current Outlook, which \
+    writes the 64-bit Unicode edition that this reader covers.";
+const BAD_BLOCK: &str = "What this block holds cannot be relied on; other blocks may be sound, and \
+    the command `node` still reads each node that does not use it. Ask for a fresh copy, made while \
+    Outlook was closed, or have the sender run Microsoft's scanpst.exe on the file. Do not open it \
+    with a reader that repairs silently.";
+const BAD_DATA: &str = "What this node holds is lost, wholly or in part; the command `node` still \
+    reads the others. Ask for a fresh copy, made while Outlook was closed, or have the sender run \
+    Microsoft's scanpst.exe on the file. Do not open it with a reader that repairs silently.";
+const TWO_LEVELS: &str =
+    "The data of this node is stored in two levels, as it must be where it has \
+    more than 8,347,696 bytes; this reader covers one level. That is no fault of the file.";
+const BAD_PROPERTIES: &str = "The node's data is what was written: its blocks are sound. But what \
+    was written is no sound list of properties. The command `node` writes it out as it is.";
+
+/// Whether the refusal is one of damage, or of something that is not covered.
+pub fn outcome(source: &Source, refusal: &Refusal, spot: &Spot) -> Outcome {
+    let covered = match refusal.fault {
+        Fault::ImageLength => !source.is_too_long(),
+        Fault::Version => edition(version(source)).is_none() && !first_checksum_fits(source),
+        Fault::DataTree => !has_two_levels(source, spot),
+        _ => true,
+    };
+    if covered {
+        Outcome::Damaged
+    } else {
+        Outcome::NotCovered
+    }
+}
+
+/// What is wrong. Of the two bounds of a length, the one that does not hold.
+pub fn meaning(source: &Source, refusal: &Refusal) -> &'static str {
+    match refusal.fault {
+        Fault::ImageLength if source.is_too_long() => {
+            "the file is over 1,073,741,824 bytes (1 GiB) long, the most that is covered"
+        }
+        Fault::ImageLength => "the file is under 564 bytes long, the length of a header",
+        _ => refusal.meaning(),
+    }
+}
+
+/// What to do.
+pub fn advice(source: &Source, refusal: &Refusal, spot: &Spot) -> &'static str {
+    match (refusal.fault, spot) {
+        (Fault::ImageLength, _) if source.is_too_long() => TOO_LONG,
+        (Fault::ImageLength, _) => TOO_SHORT,
+        (Fault::Magic, _) if refusal.place == 0 => NO_PST,
+        (Fault::Magic, _) => OTHER_STORE,
+        (Fault::Version, _) if first_checksum_fits(source) => OTHER_EDITION,
+        (Fault::Version, _) if edition(version(source)).is_some() => EDITION_OR_DAMAGE,
+        (Fault::DataTree, _) if has_two_levels(source, spot) => TWO_LEVELS,
+        (Fault::HeapShape | Fault::HeapItem | Fault::PropertyTree, _) => BAD_PROPERTIES,
+        (_, Spot::Data(_)) => BAD_DATA,
+        (_, Spot::Block(..)) => BAD_BLOCK,
+        _ => NEW_COPY,
+    }
+}
+
+/// Whether the root block of the node's data, which the library has accepted as a block, is that of a
+/// data tree of two levels: 1, 2, and a count that goes with its size.
+fn has_two_levels(source: &Source, spot: &Spot) -> bool {
+    let Spot::Data(node) = spot else {
+        return false;
+    };
+    let root = node
+        .data
+        .and_then(|data| source.image().block_data(data).ok());
+    root.is_some_and(|root| match root.as_slice() {
+        [1, 2, low, high, ..] => {
+            let count = usize::from(u16::from_le_bytes([*low, *high]));
+            root.len() == 8 + 8 * count
+        }
+        _ => false,
+    })
+}
+
+fn first_checksum_fits(source: &Source) -> bool {
+    let sum = rekwonuda::checksum(source.bytes_at(8, FIRST_SUMMED));
+    source.bytes_at(4, 4) == sum.to_le_bytes()
+}
+
+pub fn version(source: &Source) -> u16 {
+    match source.bytes_at(10, 2) {
+        [low, high] => u16::from_le_bytes([*low, *high]),
+        _ => 0,
+    }
+}
+
+/// The edition that a version other than 23 stands for.
+pub fn edition(version: u16) -> Option<&'static str> {
+    match version {
+        14 | 15 => Some("the 32-bit (ANSI) edition"),
+        36 => Some("the edition with pages of 4,096 bytes"),
+        _ => None,
+    }
+}

@@ -1,0 +1,176 @@
+//! What lies at the place of a refusal, for someone who has no description of the format at hand.
+
+use crate::account::Spot;
+use crate::advice::{edition, version, FIRST_SUMMED};
+use crate::list::kind;
+use crate::source::Source;
+use crate::users::missing;
+use crate::words::{counted, node_type, place, spaced_hex};
+use indicatif::HumanCount;
+use rekwonuda::{Block, Fault, Node, Refusal, LARGEST_BLOCK};
+
+const FIRST_ROOM: u64 = 0x4400;
+const PAGE: usize = 512;
+const SECOND_SUMMED: usize = 516;
+
+pub fn lies_there(source: &Source, refusal: &Refusal, spot: &Spot) -> String {
+    match refusal.number() {
+        1 => match source.size {
+            Some(size) => format!("the whole file: {}", counted(size, "byte")),
+            None => "the whole stream, which was not read to its end".to_string(),
+        },
+        2..=5 => in_header(source, refusal),
+        6..=11 => in_tree(source, refusal, spot),
+        12..=16 => in_blocks(source, refusal, spot),
+        _ => in_heap(spot),
+    }
+}
+
+fn in_header(source: &Source, refusal: &Refusal) -> String {
+    let at = place(refusal.place);
+    let shown = |length| spaced_hex(source.bytes_at(refusal.place, length));
+    match (refusal.number(), refusal.place) {
+        (2, 0) => format!(
+            "{at}: the file's first bytes are {}, and should be 21 42 44 4e",
+            shown(4)
+        ),
+        (2, _) => format!(
+            "{at}: the bytes there are {}, and should be 53 4d",
+            shown(2)
+        ),
+        (3, _) => {
+            let number = version(source);
+            let edition = edition(number).unwrap_or("which no edition known here has");
+            format!("{at}: the header, its version: {number}, {edition}")
+        }
+        (4, 4) => format!("{at}: {}", checksum(source, FIRST_SUMMED, &shown(4))),
+        (4, _) => format!("{at}: {}", checksum(source, SECOND_SUMMED, &shown(4))),
+        (_, 512) => format!(
+            "{at}: the header, a byte that should be 80, and is {}",
+            shown(1)
+        ),
+        _ => format!(
+            "{at}: the header, a byte that should be 00, 01 or 02, and is {}",
+            shown(1)
+        ),
+    }
+}
+
+fn checksum(source: &Source, length: usize, stored: &str) -> String {
+    let last = 7 + length;
+    let computed = rekwonuda::checksum(source.bytes_at(8, length)).to_le_bytes();
+    let computed = spaced_hex(&computed);
+    format!("the header's checksum of bytes 8 to {last}: stored {stored}, computed {computed}")
+}
+
+fn in_tree(source: &Source, refusal: &Refusal, spot: &Spot) -> String {
+    let (tree, root) = tree_of(source, spot);
+    let at = place(refusal.place);
+    if refusal.fault == Fault::PageOffset {
+        let why = why_not_there(source, refusal.place, PAGE as u64);
+        return format!("{at}: {tree} refers to a page there, but {why}");
+    }
+    let page = if root == Some(refusal.place) {
+        "the root page"
+    } else {
+        "a page"
+    };
+    let zeros = zeros_at(source, refusal.place, PAGE);
+    let way = match spot {
+        Spot::Data(node) => format!(", on the way to {}", data_of(node)),
+        _ => String::new(),
+    };
+    format!("{at}: {page} of {tree}{way}{zeros}")
+}
+
+fn tree_of(source: &Source, spot: &Spot) -> (&'static str, Option<u64>) {
+    let header = source.image().header().ok();
+    match spot {
+        Spot::NodeTree => (
+            "the node tree (the list of all folders, messages and tables)",
+            header.map(|header| header.nodes.offset),
+        ),
+        _ => (
+            "the block tree (the list of where all data stands)",
+            header.map(|header| header.blocks.offset),
+        ),
+    }
+}
+
+fn zeros_at(source: &Source, place: u64, length: usize) -> &'static str {
+    let bytes = source.bytes_at(place, length);
+    if bytes.iter().all(|byte| *byte == 0) {
+        "; all its bytes are zero"
+    } else {
+        ""
+    }
+}
+
+fn why_not_there(source: &Source, offset: u64, room: u64) -> String {
+    if !offset.is_multiple_of(64) {
+        "pages and blocks begin at multiples of 64".to_string()
+    } else if offset < FIRST_ROOM {
+        format!("none stands in the first {} bytes", HumanCount(FIRST_ROOM))
+    } else {
+        let size = place(source.size.unwrap_or(0));
+        format!("the file ends at {size}, and {room} bytes are needed there")
+    }
+}
+
+fn in_blocks(source: &Source, refusal: &Refusal, spot: &Spot) -> String {
+    match spot {
+        Spot::Block(block, users) => {
+            let listed = listed_block(source, refusal, block);
+            format!("{listed}; {}", users.text())
+        }
+        Spot::Data(node) | Spot::Heap(node, _) => block_of_node(source, refusal, node),
+        _ => place(refusal.place),
+    }
+}
+
+fn listed_block(source: &Source, refusal: &Refusal, block: &Block) -> String {
+    let at = place(refusal.place);
+    let size = counted(block.size.into(), "byte");
+    let named = format!("{at}: {} block {}, of {size}", kind(block.id), block.id);
+    if refusal.fault != Fault::BlockOffset {
+        let zeros = zeros_at(source, block.offset, block.size.into());
+        return format!("{named}{zeros}");
+    }
+    let why = if (1..=LARGEST_BLOCK).contains(&block.size.into()) {
+        why_not_there(source, block.offset, rekwonuda::room(block.size.into()))
+    } else {
+        format!(
+            "a block has 1 to {} bytes",
+            HumanCount(LARGEST_BLOCK as u64)
+        )
+    };
+    format!("{named}, is listed there, but {why}")
+}
+
+fn block_of_node(source: &Source, refusal: &Refusal, node: &Node) -> String {
+    let at = place(refusal.place);
+    let whose = data_of(node);
+    let data = node.data.unwrap_or_default();
+    match refusal.fault {
+        Fault::BlockUnlisted => match missing(source, node) {
+            Some(block) if block != data => format!("block {block}, a part of {whose}"),
+            _ => format!("block {data}, {whose}"),
+        },
+        Fault::DataTree => format!("{at}: block {data}, which lists {whose}"),
+        _ if node.has_data_tree() => format!("{at}: a block of {whose}"),
+        _ => format!("{at}: block {data}, {whose}"),
+    }
+}
+
+fn data_of(node: &Node) -> String {
+    format!("the data of node {} ({})", node.id, node_type(node.id))
+}
+
+fn in_heap(spot: &Spot) -> String {
+    match spot {
+        Spot::Heap(node, length) => {
+            format!("{}, of {}", data_of(node), counted(*length as u64, "byte"))
+        }
+        _ => "the data of a node".to_string(),
+    }
+}

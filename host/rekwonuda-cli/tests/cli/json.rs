@@ -1,0 +1,139 @@
+//! What `--json` writes is what docs/JSON.md says: its tables, and its examples.
+
+use crate::images::{sample, sound};
+use crate::page::{self, Shapes};
+use crate::runs::{command, file, folder, office, repository, run, run_in, words, Run};
+use crate::spoilt::changed;
+use serde_json::{json, Value};
+use std::ffi::OsStr;
+use std::fs;
+use std::os::unix::ffi::OsStrExt;
+use std::os::unix::fs::symlink;
+use std::path::Path;
+
+/// Every command on the path, with all that it can ask for.
+fn hold_commands(shapes: &Shapes, path: &Path, nodes: &[u64]) {
+    let commands: [&[&str]; 5] = [
+        &["check"],
+        &["check", "--all"],
+        &["info"],
+        &["nodes"],
+        &["blocks"],
+    ];
+    for words in commands {
+        shapes.hold_run(&run(&[words, &["--json"]].concat(), path, &[]));
+    }
+    for node in nodes {
+        for command in ["node", "props"] {
+            shapes.hold_run(&run(&[command, "--json"], path, &[&node.to_string()]));
+        }
+    }
+}
+
+#[test]
+fn answers_have_the_shape_of_the_page() {
+    let shapes = Shapes::read();
+    let built = sound();
+    let path = file("json_sound.pst", &built.image);
+    hold_commands(&shapes, &path, &built.node_numbers());
+    hold_commands(&shapes, &office(), &[0x21, 0x0020_0284, 0x0020_02A4]);
+    hold_commands(&shapes, &sample(), &[0x21, 0x20]);
+    for (at, offset) in [0, 10, 100, built.blocks[0].offset].into_iter().enumerate() {
+        let path = file(&format!("json_{at}.pst"), &changed(&built, offset));
+        hold_commands(&shapes, &path, &built.node_numbers()[..3]);
+    }
+    let cut = &built.image[..built.image.len() - 2000];
+    hold_commands(&shapes, &file("json_cut.pst", cut), &built.node_numbers());
+    hold_failures(&shapes);
+    hold_names(&shapes);
+    shapes.all_were_met();
+}
+
+fn hold_failures(shapes: &Shapes) {
+    let wrong: [&[&str]; 4] = [
+        &["--json"],
+        &["--json", "mend"],
+        &["check", "--json"],
+        &["check", "x", "--jobs", "+1", "--json"],
+    ];
+    for wrong in wrong {
+        let answer = shapes.hold_run(&words(wrong));
+        assert_eq!(answer["command"], Value::Null);
+        assert_eq!(answer["outcome"], "error");
+        let message = answer["message"].as_str().unwrap();
+        assert!(message.contains("--help"), "{answer}");
+    }
+    for command in ["check", "info", "nodes", "blocks"] {
+        let answer = shapes.hold_run(&run(&[command, "--json"], Path::new("no/such.pst"), &[]));
+        assert_eq!(answer["file"], "no/such.pst");
+        assert_eq!(answer["status"], 2);
+    }
+    let unwritable = ["0x21", "-o", "no/such.bin"];
+    shapes.hold_run(&run(&["node", "--json"], &office(), &unwritable));
+}
+
+/// A name that is no text can be recovered.
+fn hold_names(shapes: &Shapes) {
+    let folder = folder("json_names");
+    let path = folder.join(OsStr::from_bytes(b"odd\xFF\x1b[31m.pst"));
+    fs::copy(office(), &path).unwrap();
+    for words in [["check", "--json"], ["info", "--json"]] {
+        let answer = shapes.hold_run(&run(&words, &path, &[]));
+        let name = unhex(answer["file_hex"].as_str().unwrap());
+        assert_eq!(name, path.as_os_str().as_bytes());
+    }
+    let several = run(&["check", "--json"], &folder, &[]);
+    shapes.hold_run(&several);
+    assert!(several.text.contains("file_hex") && !several.text.contains('\x1b'));
+    let out = folder.join(OsStr::from_bytes(b"\xFE"));
+    let mut node = command(&["node", "--json"], &office(), &["0x21", "-o"]);
+    let answer = shapes.hold_run(&Run::of(node.arg(&out).output().unwrap()));
+    let name = unhex(answer["output_hex"].as_str().unwrap());
+    assert_eq!(name, out.as_os_str().as_bytes());
+}
+
+fn unhex(digits: &str) -> Vec<u8> {
+    let pairs = (0..digits.len()).step_by(2);
+    pairs
+        .map(|at| u8::from_str_radix(&digits[at..at + 2], 16).unwrap())
+        .collect()
+}
+
+#[test]
+fn numbers_of_64_bits_survive() {
+    let built = sound();
+    let mut image = built.image.clone();
+    let odd = u64::MAX - 63;
+    image[224..232].copy_from_slice(&odd.to_le_bytes());
+    model::build::seal::seal_header(&mut image);
+    let answer = run(&["check", "--json"], &file("json_wide.pst", &image), &[]).json();
+    assert_eq!(answer["refusals"][0]["place"], odd.to_string());
+    assert_eq!(answer["refusals"][0]["number"], 6);
+}
+
+/// Runs the examples of the page as they stand.
+#[test]
+fn examples_are_what_the_program_writes() {
+    let page = page::text();
+    let folder = folder("json_examples");
+    symlink(repository("samples"), folder.join("samples")).unwrap();
+    let blocks: Vec<&str> = page.split("```").skip(1).step_by(2).collect();
+    assert!(blocks.len() >= 10);
+    for pair in blocks.chunks(2) {
+        let script = pair[0].strip_prefix("sh\n").unwrap();
+        let told: Value = serde_json::from_str(pair[1].strip_prefix("json\n").unwrap()).unwrap();
+        assert_eq!(run_in(&folder, script).json(), told, "{script}");
+    }
+}
+
+#[test]
+fn a_list_that_is_refused_is_closed_properly() {
+    let answer = run(&["nodes", "--json"], &sample(), &[]);
+    assert_eq!(answer.status, 1);
+    let answer = answer.json();
+    let wanted =
+        json!({"node": 290, "type": "folder", "parent": 290, "data": "76", "subnode": null});
+    assert_eq!(answer["nodes"][2], wanted);
+    assert_eq!(answer["refusals"][0]["number"], 7);
+    assert_eq!(answer["refusals"][0]["place"], "26624");
+}
