@@ -134,7 +134,7 @@ module _ (image : List ℕ) (f : FoundBlock) where
   unfolding testedBy
   lookup-refused r g = sym (ap (testedBy (blockFits trailer64 image)) g)
 
-unblock : (d b : Listed) → checked.Block d ≡ checked.Block b → d ≡ b
+pub unblock : (d b : Listed) → checked.Block d ≡ checked.Block b → d ≡ b
 unblock d b p = cc
 
 -- what a checked block tells

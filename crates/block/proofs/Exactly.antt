@@ -1,23 +1,29 @@
 -- A block is accepted exactly when each of its rules holds. Assumes nothing.
 use Prim.Native.Nat.{ℕ}
-use mathlib.Core.Path.{_≡_}
-use mathlib.Core.Bool.{Bool, true, _&&_}
+use mathlib.Core.Path.{_≡_, refl, sym, ap, _∙_, subst}
+use mathlib.Core.Bool.{_&&_}
 use mathlib.Core.Logic.{_↔_}
-use mathlib.Core.List.{List, [], _∷_}
-use lib.Dec.{leb, eqb}
+use mathlib.Core.List.{List}
+use native.Mathlib.Omega.{arith}
+use lib.Dec.{eqb}
 use borrow.Author.Tests.{leb-true, eqb-true, le-leb, eq-eqb}
 use Rattle.laws.proofs.Tests.{and-both, both-and}
 use Rattle.le.specs.Bytes.{field}
 use Rattle.refusal.specs.declared.Refusal.{Refusal}
+use Rattle.refusal.specs.declared.Verdict.{Verdict}
 use Rattle.refusal.specs.declared.Verdict.the-variants.{Accepted, Refused}
-use Rattle.refusal.specs.Order.{AllHold, none, both, FirstFault}
-use Rattle.refusal.proofs.OrderLaws.{accepted-exactly, refused-exactly}
+use Rattle.refusal.specs.Order.{after, AllHold, none, both, FirstFault}
+use Rattle.refusal.proofs.OrderLaws.{goes, ends, accepted-exactly, refused-exactly}
 use Rattle.page.specs.Page.{signature}
 use Rattle.tree.specs.declared.Listed.{Listed}
+use Rattle.tree.specs.declared.FoundBlock.{FoundBlock}
+use Rattle.tree.specs.declared.FoundBlock.the-variants as block
+use Rattle.tree.specs.Answers.{blockOf}
+use Rattle.block.specs.declared.Checked.the-variants as checked
 use Rattle.block.specs.declared.Trailer.{Trailer}
-use Rattle.block.specs.Block.{trailerOf, placeFits, trailerFits, sumFits, trailerRules, blockRules, blockFits}
-use Rattle.block.specs.Sound.{BlockSound}
-use Rattle.block.proofs.BlockLaws.{placed-of}
+use Rattle.block.specs.Block.{trailer64, trailerOf, placeFits, trailerFits, sumFits, trailerRules, blockRules, blockFits, testedBy, checkedBlock}
+use Rattle.block.specs.Sound.{BlockSound, ListedSound}
+use Rattle.block.proofs.BlockLaws.{placed-of, unblock}
 
 sound-of : (t : Trailer) (image : List ℕ) (b : Listed) → AllHold (blockRules t image b) → BlockSound t image b
 unfolding blockRules trailerRules trailerFits sumFits
@@ -60,3 +66,25 @@ block-exactly t image b = (
 pub block-first-fault : (t : Trailer) (image : List ℕ) (b : Listed) (r : Refusal) → (blockFits t image b ≡ Refused r) ↔ FirstFault (blockRules t image b) r
 unfolding blockFits
 block-first-fault t image b r = refused-exactly (blockRules t image b) r
+
+-- what was found passes its tests as the block b
+found-by : (image : List ℕ) (f : FoundBlock) (b : Listed) (P : Type 0) → testedBy (blockFits trailer64 image) f ≡ checked.Block b
+    → ((n : ℕ) → f ≡ block.Found b n → BlockSound trailer64 image b → P) → P
+unfolding testedBy
+found-by image (block.Found d n) b P e go = by (blockFits trailer64 image d) refl e
+  where
+    by : (v : Verdict) → blockFits trailer64 image d ≡ v → after checked.Refused v (checked.Block d) ≡ checked.Block b → P
+    by Accepted q z =
+        let same : d ≡ b = unblock d b (sym (goes checked.Refused Accepted (checked.Block d) refl) ∙ z) in
+        go n (ap (λ (x : Listed). block.Found x n) same) (subst (BlockSound trailer64 image) same (block-exactly trailer64 image d .0 q))
+    by (Refused r) q z = let other = ends checked.Refused (Refused r) (checked.Block d) r refl in let clash : _≡_ {A = ℕ} 0 1 = cc in absurd (omega arith)
+found-by image (block.Absent n) b P e go = let clash : _≡_ {A = ℕ} 0 1 = cc in absurd (omega arith)
+found-by image (block.Refused r) b P e go = let clash : _≡_ {A = ℕ} 0 1 = cc in absurd (omega arith)
+
+-- a number passes 12 to 15 exactly when the block tree lists it as a block whose rules hold
+pub checked-exactly : (image : List ℕ) (number : ℕ) (b : Listed) → (checkedBlock image number ≡ checked.Block b) ↔ ListedSound image number b
+unfolding checkedBlock testedBy
+checked-exactly image number b = (
+  (λ e. found-by image (blockOf image number) b (ListedSound image number b) e (λ n f s. record { pages = n; found = f; sound = s })),
+  (λ h. ap (testedBy (blockFits trailer64 image)) (h .found) ∙ goes checked.Refused _ _ (block-exactly trailer64 image b .1 (h .sound))),
+)

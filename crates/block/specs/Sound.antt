@@ -7,8 +7,10 @@ use Rattle.crc.specs.Checksum.{checksum}
 use Rattle.header.specs.Header.{fileEnd}
 use Rattle.page.specs.Page.{signature}
 use Rattle.tree.specs.declared.Listed.{Listed}
+use Rattle.tree.specs.declared.FoundBlock.the-variants.{Found}
+use Rattle.tree.specs.Answers.{blockOf}
 use Rattle.block.specs.declared.Trailer.{Trailer}
-use Rattle.block.specs.Block.{roomFor, stored, trailerOf}
+use Rattle.block.specs.Block.{trailer64, roomFor, stored, trailerOf}
 
 pub record BlockSound (t : Trailer) (image : List ℕ) (b : Listed) : Type 0 where
   pub size-low : 1 ≤ b .size
@@ -20,6 +22,12 @@ pub record BlockSound (t : Trailer) (image : List ℕ) (b : Listed) : Type 0 whe
   pub number-same : field (trailerOf t image b) (t .number) (t .word) ≡ b .block
   pub signed : field (trailerOf t image b) 2 2 ≡ signature (b .offset) (b .block)
   pub summed : field (trailerOf t image b) (t .checksum) 4 ≡ checksum (stored t image b)
+
+-- a block that the block tree lists under this number, and whose rules hold
+pub record ListedSound (image : List ℕ) (number : ℕ) (b : Listed) : Type 0 where
+  pub pages : ℕ
+  pub found : blockOf image number ≡ Found b pages
+  pub sound : BlockSound trailer64 image b
 
 -- what every trailer of a known edition has: its fields lie in it, and the room of the largest block is small
 pub record FairTrailer (t : Trailer) : Type 0 where

@@ -1,5 +1,5 @@
 -- Demand 2. Assumes nothing.
-use Prim.Native.Nat.{ℕ, _≤_, _<_}
+use Prim.Native.Nat.{ℕ, _≤_}
 use mathlib.Core.Path.{_≡_, refl, sym, ap, _∙_, subst}
 use mathlib.Core.Bool.{Bool, true, false, cond}
 use mathlib.Core.Logic.{_↔_}
@@ -7,14 +7,13 @@ use mathlib.Core.List.{List, [], _∷_, _++_, map}
 use native.Mathlib.Omega.{arith}
 use lib.Dec.{leb}
 use lib.ListN.{length}
-use borrow.Author.Tests.{leb-true, leb-false, le-leb}
+use borrow.Author.Tests.{leb-true, le-leb}
 use Rattle.laws.proofs.Tests.{not-both}
-use Rattle.refusal.specs.declared.Refusal.{Refusal}
 use Rattle.refusal.specs.declared.Verdict.{Verdict}
 use Rattle.refusal.specs.declared.Verdict.the-variants as verdict
 use Rattle.refusal.specs.declared.Fault.the-variants.{ShortBuffer}
 use Rattle.refusal.specs.Order.{_needing_, after, AllHold}
-use Rattle.refusal.proofs.OrderLaws.{goes, ends, accepted-exactly}
+use Rattle.refusal.proofs.OrderLaws.{goes, accepted-exactly}
 use Rattle.coding.specs.Coding.{cyclic, word}
 use Rattle.coding.specs.Table.{R, I}
 use Rattle.coding.proofs.CodingLaws.{coded-permute, coded-cyclic}
@@ -28,23 +27,18 @@ use Rattle.header.specs.declared.HeaderAnswer.the-variants as header
 use Rattle.header.specs.Header.{headerFits, headerOf, says}
 use Rattle.header.specs.Sound.{HeaderSound}
 use Rattle.header.proofs.HeaderLaws.{header-exactly}
-use Rattle.page.specs.declared.Layout.{Layout}
 use Rattle.page.specs.Layout.{nbt, bbt}
 use Rattle.tree.specs.declared.Listed.{Listed}
-use Rattle.tree.specs.declared.FoundBlock.{FoundBlock}
 use Rattle.tree.specs.declared.FoundBlock.the-variants as block
 use Rattle.tree.specs.Tree.{treeFits}
-use Rattle.tree.specs.Answers.{blockOf}
 use Rattle.tree.specs.Sound.{TreeSound}
 use Rattle.tree.proofs.Exactly.{tree-exactly}
 use Rattle.block.specs.declared.Checked.{Checked}
 use Rattle.block.specs.declared.Checked.the-variants as checked
-use Rattle.block.specs.declared.Sized.{Sized}
 use Rattle.block.specs.declared.Sized.the-variants as sized
-use Rattle.block.specs.Block.{trailer64, blockFits, testedBy, checkedBlock, sizeIn, testOf, fitting, readIn, readOf, blockBytes, fronted}
-use Rattle.block.specs.Sound.{BlockSound}
-use Rattle.block.proofs.BlockLaws.{checked-fits, read-fills}
-use Rattle.block.proofs.Exactly.{block-exactly}
+use Rattle.block.specs.Block.{checkedBlock, sizeIn, testOf, fitting, readIn, readOf, blockBytes, fronted}
+use Rattle.block.proofs.BlockLaws.{read-fills}
+use Rattle.block.proofs.Exactly.{checked-exactly}
 use Rattle.node.specs.declared.NodeRead.the-variants as read
 use Rattle.node.specs.Content.{Content, nodeContent, answerTo, filledBy}
 use Rattle.node.specs.Content as content
@@ -52,7 +46,7 @@ use Rattle.node.specs.Named.{Named}
 use Rattle.node.proofs.Exactly.{node-exactly}
 use Rattle.node.proofs.Most.{node-most}
 use Rattle.heap.specs.Shape.{Heap, shapeRules, heapTest}
-use Rattle.heap.specs.Items.{Numbered, itemTest, itemStart, itemLength, itemPart, itemOr, itemSpan}
+use Rattle.heap.specs.Items.{Numbered, itemTest, itemStart, itemLength, itemPart}
 use Rattle.heap.proofs.ShapeLaws.{heap-exactly}
 use Rattle.heap.proofs.ItemLaws.{item-exactly, item-taken, span-taken}
 use Rattle.heaptree.specs.declared.Branch.{Branch}
@@ -68,7 +62,7 @@ use Rattle.property.specs.Scan.{PropertiesSound, idOf, propertyRecords}
 use Rattle.property.proofs.ContextLaws.{context-exactly}
 use Rattle.property.proofs.TriedLaws.{refusalIn, property-answered-exactly}
 use Rattle.property.proofs.ScanLaws.{scan-holds}
-use Rattle.pst.specs.Meaning.{Meaning, answered, refuses, refusalMeans, verdictMeans, headerMeans, blockMeans, sizedMeans, dataMeans, spanMeans, propertyMeans}
+use Rattle.pst.specs.Meaning.{answered, refuses, refusalMeans, verdictMeans, headerMeans, blockMeans, sizedMeans, dataMeans, spanMeans, propertyMeans}
 use Rattle.pst.specs.Outcomes.{headerOutcome, nodesOutcome, blocksOutcome, blockOutcome, testOutcome, readOutcome, readBuffer, dataOutcome, dataBuffer, encodeBuffer, decodeBuffer, heapOutcome, testItemOutcome, itemOutcome, spanOutcome, propertyOutcome}
 use Rattle.pst.specs.Demands.{SoundBlock, BlockOfSize, DataOfSize, SecondDemand}
 use Rattle.pst.proofs.Injective.{verdict-injective, header-injective, block-injective, sized-injective, data-injective}
@@ -103,9 +97,6 @@ block-tree-holds : (image : List ℕ) → (blocksOutcome image ≡ answered []) 
 unfolding blocksOutcome
 block-tree-holds image = both-ways (accepted-means (treeFits bbt image)) (tree-exactly bbt image)
 
-unblock : (d b : Listed) → checked.Block d ≡ checked.Block b → d ≡ b
-unblock d b p = cc
-
 size-is : {m n : ℕ} → sized.Size m ≡ sized.Size n → m ≡ n
 size-is e = cc
 
@@ -117,29 +108,17 @@ read-is : (image : List ℕ) (number space : ℕ) → readIn (checkedBlock image
 unfolding readOf
 read-is image number space = refl
 
--- a checked block is one that the lookup finds, whose rules hold
+-- a block that passed its tests
 module _ (image : List ℕ) (number : ℕ) where
-  found-by : (f : FoundBlock) (b : Listed) → testedBy (blockFits trailer64 image) f ≡ checked.Block b → blockMeans f ≡ blockOutcome image number → SoundBlock image number b
-  unfolding testedBy
-  found-by (block.Found d n) b e m = by (blockFits trailer64 image d) refl e
-    where
-      by : (v : Verdict) → blockFits trailer64 image d ≡ v → after checked.Refused v (checked.Block d) ≡ checked.Block b → SoundBlock image number b
-      by verdict.Accepted q z =
-          let same : d ≡ b = unblock d b (sym (goes checked.Refused verdict.Accepted (checked.Block d) refl) ∙ z) in
-          subst (SoundBlock image number) same (record { pages = n; found = sym m; sound = block-exactly trailer64 image d .0 q })
-      by (verdict.Refused r) q z = let other = ends checked.Refused (verdict.Refused r) (checked.Block d) r refl in let clash : _≡_ {A = ℕ} 0 1 = cc in absurd (omega arith)
-  found-by (block.Absent n) b e m = let clash : _≡_ {A = ℕ} 0 1 = cc in absurd (omega arith)
-  found-by (block.Refused r) b e m = let clash : _≡_ {A = ℕ} 0 1 = cc in absurd (omega arith)
-
+  -- what the public lookup says of it
   checked-sound : (b : Listed) → checkedBlock image number ≡ checked.Block b → SoundBlock image number b
-  unfolding checkedBlock blockOutcome
-  checked-sound b e = found-by (blockOf image number) b e refl
+  unfolding blockOutcome
+  checked-sound b e = let h = checked-exactly image number b .0 e in record { pages = h .pages; found = ap blockMeans (h .found); sound = h .sound }
 
   sound-checked : (b : Listed) → SoundBlock image number b → checkedBlock image number ≡ checked.Block b
-  unfolding checkedBlock blockOutcome testedBy
+  unfolding blockOutcome
   sound-checked b s =
-      ap (testedBy (blockFits trailer64 image)) (block-injective _ (block.Found b (s .pages)) (s .found))
-      ∙ goes checked.Refused _ _ (block-exactly trailer64 image b .1 (s .sound))
+      checked-exactly image number b .1 (record { pages = s .pages; found = block-injective _ (block.Found b (s .pages)) (s .found); sound = s .sound })
 
   size-block : (c : Checked) (size : ℕ) → checkedBlock image number ≡ c → sizeIn c ≡ sized.Size size → BlockOfSize image number size
   unfolding sizeIn
