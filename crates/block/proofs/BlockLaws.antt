@@ -1,12 +1,12 @@
 -- What upper layers may know of blocks. Assumes nothing.
-use Prim.Native.Nat.{ℕ, _+_, _-_, _*_, _%_, _≤_, _<_}
+use Prim.Native.Nat.{ℕ, _+_, _*_, _%_, _≤_, _<_}
 use mathlib.Core.Path.{_≡_, refl, sym, ap, _∙_}
 use mathlib.Core.Bool.{Bool, true, false, _&&_, cond}
 use mathlib.Core.List.{List}
-use native.Mathlib.Nat.{le-trans, add-sub-cancel-left}
+use native.Mathlib.Nat.{le-trans}
 use native.Mathlib.Omega.{arith}
 use lib.Dec.{leb, eqb}
-use lib.ListN.{length, take, drop}
+use lib.ListN.{length}
 use borrow.Author.Tests.{leb-true, lt-leb, le-leb}
 use Rattle.laws.proofs.Tests.{and-both}
 use Rattle.le.specs.Bytes.{part}
@@ -29,7 +29,7 @@ use Rattle.block.specs.declared.Trailer.{Trailer}
 use Rattle.block.specs.declared.Checked.{Checked}
 use Rattle.block.specs.declared.Checked.the-variants as checked
 use Rattle.block.specs.declared.Sized.the-variants as sized
-use Rattle.block.specs.Block.{trailer64, roomFor, room, stored, trailerOf, placeFits, trailerRules, blockRules, blockFits, testedBy, checkedBlock, sizeIn, internal, plain, blockBytes, fronted, fitting, readIn, readOf, filledIn, filledOf}
+use Rattle.block.specs.Block.{trailer64, roomFor, stored, trailerOf, placeFits, trailerRules, blockRules, blockFits, testedBy, checkedBlock, sizeIn, internal, plain, blockBytes, fronted, fitting, readIn, readOf, filledIn, filledOf}
 use Rattle.block.specs.Sound.{FairTrailer}
 
 pub fair-trailer : FairTrailer trailer64
@@ -92,11 +92,6 @@ pub block-goes : (t : Trailer) (image : List ℕ) (b : Listed) → placeFits t i
     → inOrder (trailerRules t b (trailerOf t image b) (stored t image b)) ≡ blockFits t image b
 unfolding blockFits blockRules inOrder
 block-goes t image b e = sym (test-goes Refused _ _ _ e)
-
--- parts that are handed on
-pub part-is : (image : List ℕ) (place size : ℕ) → take (place + size - place) (drop place image) ≡ part image place size
-unfolding part
-part-is image place size = rw add-sub-cancel-left
 
 -- an accepted block lies in the image, and is no larger than the most
 pub accepted-placed : (t : Trailer) (image : List ℕ) (b : Listed) → blockFits t image b ≡ Accepted → placeFits t image b ≡ true

@@ -2,13 +2,13 @@
 use mathlib.Core.Path.{_≡_, refl, sym, ap, ap₂, _∙_}
 use mathlib.Core.List.{List, [], _∷_, _++_}
 use Prim.Native.Nat.{ℕ, zero, suc, _+_, _*_, _/_, _%_, _^_, _<_, _≤_}
-use native.Mathlib.Nat.{mod-lt, div-eq-of-lt}
+use native.Mathlib.Nat.{div-eq-of-lt}
 use native.Mathlib.Omega.{arith}
 use native.Mathlib.Numerals.{add-one}
 use lib.ListN.{length, drop, getD, drop-of-length-le}
 use lib.Seq.{drop-cons}
-use lib.Bits.{bitXor, differ, xor-step, xor-zero-l, xor-zero-r, xor-comm, xor-self, xor-shr, xor-mod, xor-shifted, shifted-half, shifted-even}
-use Rattle.laws.proofs.Xor.{xor-assoc, xor-swap, digit-cases}
+use lib.Bits.{bitXor, xor-zero-r, xor-shr, xor-mod, xor-shifted, shifted-half, shifted-even}
+use Rattle.laws.proofs.Xor.{xor-swap, digit-cases}
 use Rattle.crc.specs.Checksum.{polynomial, bit, bits, checksumFrom}
 
 digit-mul : (x y : ℕ) → x < 2 → y < 2 → bitXor x y * polynomial ≡ bitXor (x * polynomial) (y * polynomial)

@@ -1,12 +1,12 @@
 -- Where the ranges of children end, one record at a time. Assumes nothing.
 use Prim.Native.Nat.{ℕ, _+_, _≤_, _<_}
-use mathlib.Core.Path.{_≡_, refl, sym, ap, _∙_}
+use mathlib.Core.Path.{_≡_, refl, ap}
 use mathlib.Core.List.{List, [], _∷_}
 use Rattle.keys.specs.declared.End.{End}
 use Rattle.keys.specs.declared.End.the-variants.{Before}
 use Rattle.keys.specs.declared.Range.{Range}
 use Rattle.keys.specs.declared.Shape.{Shape}
-use Rattle.keys.specs.Records.{keyOf, keyAt, recordAt, recordsFrom}
+use Rattle.keys.specs.Records.{keyAt}
 use Rattle.keys.specs.Range.{endOf, rangeAt}
 use Rattle.keys.proofs.RecordLaws.{records-at, records-none}
 

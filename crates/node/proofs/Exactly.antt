@@ -1,15 +1,15 @@
 -- A node has data exactly when the rules hold, and it is then the bytes of the blocks that the node names, in order. Assumes nothing.
-use Prim.Native.Nat.{ℕ, zero, suc, _+_, _*_, _≤_}
+use Prim.Native.Nat.{ℕ, _≤_}
 use mathlib.Core.Path.{_≡_, refl, sym, ap, _∙_, subst}
-use mathlib.Core.Bool.{Bool, true, false, not, _&&_}
+use mathlib.Core.Bool.{Bool, true, false, not}
 use mathlib.Core.Logic.{_↔_}
 use mathlib.Core.List.{List, [], _∷_}
 use native.Mathlib.Omega.{arith}
-use lib.Dec.{leb, eqb}
+use lib.Dec.{eqb}
 use lib.ListN.{length}
 use borrow.Author.Tests.{eqb-true, eqb-false, eq-eqb, le-leb}
 use Rattle.laws.proofs.Tests.{and-both, both-and}
-use Rattle.le.specs.Bytes.{part, field, byte}
+use Rattle.le.specs.Bytes.{part, field}
 use Rattle.refusal.specs.declared.Refusal.{Refusal}
 use Rattle.keys.specs.Plain.{All}
 use Rattle.keys.specs.Search.{joined}
@@ -21,8 +21,8 @@ use Rattle.tree.specs.Answers.{nodeOf}
 use Rattle.block.specs.declared.Checked.{Checked}
 use Rattle.block.specs.declared.Checked.the-variants as checked
 use Rattle.block.specs.Block.{checkedBlock, internal, blockBytes}
-use Rattle.node.specs.Content.{Content, bytes, absent, refused, countIn, numbersIn, noneInternal, shapeFits, Kids, all, fault, kidsOf, total, treeContent, blockContent, dataOf, nodeContent}
-use Rattle.node.specs.Named.{ListedAs, DataTreeSound, Hands, own, children, Named, nothing, something}
+use Rattle.node.specs.Content.{Content, bytes, absent, refused, numbersIn, noneInternal, shapeFits, Kids, all, fault, kidsOf, total, treeContent, blockContent, dataOf, nodeContent}
+use Rattle.node.specs.Named.{DataTreeSound, Hands, own, children, Named, nothing, something}
 use Rattle.node.proofs.Kids.{listing-of, of-listing}
 use Rattle.node.proofs.Outcomes.{shape-of, tree-shapeless, tree-fault, tree-other-sum, tree-bytes, block-tree, block-own, data-none, data-refused, data-block, node-found, node-absent, node-refused}
 

@@ -1,5 +1,5 @@
 -- The children of a data tree, tested one at a time. Assumes nothing.
-use Prim.Native.Nat.{ℕ, zero, suc, _+_, _-_, _≤_, _<_}
+use Prim.Native.Nat.{ℕ, _+_}
 use mathlib.Core.Path.{_≡_, refl, sym, ap, ap₂, _∙_, subst}
 use mathlib.Core.List.{List, [], _∷_, _++_}
 use native.Mathlib.Nat.{zero-add, add-zero, add-assoc}
@@ -7,6 +7,7 @@ use native.Mathlib.Omega.{arith}
 use lib.ListN.{length, length-append}
 use Rattle.refusal.specs.declared.Refusal.{Refusal}
 use Rattle.keys.specs.Search.{joined}
+use Rattle.keys.proofs.SearchLaws.{joined-nil, joined-more}
 use Rattle.tree.specs.declared.Listed.{Listed}
 use Rattle.block.specs.declared.Checked.{Checked}
 use Rattle.block.specs.declared.Checked.the-variants as checked
@@ -15,7 +16,7 @@ use Rattle.block.proofs.BlockLaws.{checked-inside, bytes-length}
 use Rattle.node.specs.declared.Measured.{Measured}
 use Rattle.node.specs.declared.Measured.the-variants as measured
 use Rattle.node.specs.Content.{Kids, all, fault, andKids, kidsOf, total}
-use Rattle.node.specs.Steps.{measuredIn, refusedIn, IsListed, AllListed, bytesIn, bytesAt}
+use Rattle.node.specs.Steps.{measuredIn, refusedIn, AllListed, bytesIn, bytesAt}
 use Rattle.node.specs.Named.{ListedAs, none, one}
 
 -- a sum to which so much is added; a refusal stays
@@ -94,15 +95,16 @@ unfolding bytesAt bytesIn
 bytes-here image n b e = ap (bytesIn image) e
 
 pub joined-blocks : (image ns : List ℕ) (bs : List Listed) → ListedAs image ns bs → joined (bytesAt image) ns ≡ joined (blockBytes image) bs
-unfolding joined
-joined-blocks image [] [] none = refl
-joined-blocks image (n ∷ ns) (b ∷ bs) (one q l) = ap₂ _++_ (bytes-here image n b q) (joined-blocks image ns bs l)
+joined-blocks image [] [] none = joined-nil (bytesAt image) ∙ sym (joined-nil (blockBytes image))
+joined-blocks image (n ∷ ns) (b ∷ bs) (one q l) =
+    joined-more (bytesAt image) n ns ∙ ap₂ _++_ (bytes-here image n b q) (joined-blocks image ns bs l) ∙ sym (joined-more (blockBytes image) b bs)
 
 pub joined-length : (image ns : List ℕ) (bs : List Listed) → ListedAs image ns bs → length (joined (blockBytes image) bs) ≡ total bs
-unfolding joined total
-joined-length image [] [] none = refl
+unfolding total
+joined-length image [] [] none = ap length (joined-nil (blockBytes image))
 joined-length image (n ∷ ns) (b ∷ bs) (one q l) =
-    length-append (blockBytes image b) (joined (blockBytes image) bs)
+    ap length (joined-more (blockBytes image) b bs)
+    ∙ length-append (blockBytes image b) (joined (blockBytes image) bs)
     ∙ ap₂ _+_ (bytes-length image b (checked-inside image n b q)) (joined-length image ns bs l)
 
 -- the blocks of children that are all there

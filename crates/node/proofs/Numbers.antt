@@ -1,7 +1,7 @@
 -- The numbers in a data tree's root block, from the i-th on. Assumes nothing.
-use Prim.Native.Nat.{ℕ, zero, suc, _+_, _-_, _*_, _≤_, _<_}
+use Prim.Native.Nat.{ℕ, suc, _+_, _-_, _*_, _≤_, _<_}
 use mathlib.Core.Path.{_≡_, refl, sym, ap, _∙_}
-use mathlib.Core.Bool.{Bool, true, false, not, _&&_}
+use mathlib.Core.Bool.{Bool, true, false, _&&_}
 use mathlib.Core.List.{List, [], _∷_, _++_}
 use native.Mathlib.Nat.{sub-zero}
 use native.Mathlib.Omega.{arith}
@@ -10,6 +10,7 @@ use lib.ListN.{length}
 use Rattle.le.specs.Bytes.{byte}
 use borrow.Author.Tests.{lt-leb, ne-eqb}
 use Rattle.keys.specs.Search.{joined}
+use Rattle.keys.proofs.SearchLaws.{joined-nil, joined-more}
 use Rattle.block.specs.Block.{internal}
 use Rattle.node.specs.Content.{countIn, numberAt, numbersFrom, numbersIn, noneInternal, shapeFits}
 
@@ -44,12 +45,10 @@ module _ (g : List ℕ) (n : ℕ) where
 
 -- the lists under the numbers: the first, and then the others
 pub joined-rest : (f : ℕ → List ℕ) (g : List ℕ) (n i : ℕ) → i < n → joined f (rest g n i) ≡ f (numberAt g i) ++ joined f (rest g n (i + 1))
-unfolding joined
-joined-rest f g n i h = ap (joined f) (rest-at g n i h)
+joined-rest f g n i h = ap (joined f) (rest-at g n i h) ∙ joined-more f (numberAt g i) (rest g n (i + 1))
 
 pub joined-none : (f : ℕ → List ℕ) (g : List ℕ) (n i : ℕ) → n ≤ i → joined f (rest g n i) ≡ []
-unfolding joined
-joined-none f g n i h = ap (joined f) (rest-none g n i h)
+joined-none f g n i h = ap (joined f) (rest-none g n i h) ∙ joined-nil f
 
 -- a root block that is too short for a count, or for its numbers
 pub too-short : (g : List ℕ) → length g < 8 → false ≡ shapeFits g

@@ -1,9 +1,9 @@
 -- A page is accepted exactly when each of its rules holds. Assumes nothing.
 use Prim.Native.Nat.{ℕ, _+_, _%_, _≤_}
-use mathlib.Core.Path.{_≡_, refl, sym, ap, _∙_}
+use mathlib.Core.Path.{_≡_, refl}
 use mathlib.Core.Bool.{Bool, true, false, _&&_, _||_}
 use mathlib.Core.Logic.{_↔_, _⊎_, inl, inr}
-use mathlib.Core.List.{List, [], _∷_, map}
+use mathlib.Core.List.{List, map}
 use native.Mathlib.Omega.{arith}
 use lib.Dec.{leb, eqb}
 use borrow.Author.Tests.{leb-true, eqb-true, le-leb, eq-eqb}
@@ -13,15 +13,13 @@ use Rattle.refusal.specs.declared.Refusal.{Refusal}
 use Rattle.refusal.specs.declared.Verdict.the-variants.{Accepted, Refused}
 use Rattle.refusal.specs.Order.{AllHold, none, both, FirstFault}
 use Rattle.refusal.proofs.OrderLaws.{accepted-exactly, refused-exactly}
-use Rattle.keys.specs.Range.{ordered}
 use Rattle.keys.proofs.Climbs.{ordered-exactly, climbing-is, is-climbing}
 use Rattle.header.specs.Header.{fileEnd}
 use Rattle.page.specs.declared.Layout.{Layout}
 use Rattle.page.specs.declared.Level.{Level}
 use Rattle.page.specs.declared.Level.the-variants.{AtRoot, Exactly}
 use Rattle.page.specs.declared.Link.{Link}
-use Rattle.page.specs.Layout.{entrySize, mostRoom}
-use Rattle.page.specs.Page.{signature, page, countOf, roomOf, sizeOf, levelOf, entries, keyIn, offsetFits, kindFits, numberFits, checksumFits, levelFits, mayBeEmpty, countsFit, keysFit, bytesRules, pageRules, pageFits}
+use Rattle.page.specs.Page.{signature, page, entries, keyIn, offsetFits, kindFits, numberFits, checksumFits, levelFits, mayBeEmpty, countsFit, keysFit, bytesRules, pageRules, pageFits}
 use Rattle.page.specs.Sound.{Wanted, MayBeEmpty, BytesSound, PageSound}
 use Rattle.page.proofs.PageLaws.{counts-of}
 

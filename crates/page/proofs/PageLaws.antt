@@ -2,19 +2,18 @@
 use Prim.Native.Nat.{ℕ, zero, suc, _+_, _*_, _-_, _%_, _≤_, _<_}
 use mathlib.Core.Path.{_≡_, refl, sym, ap, _∙_}
 use mathlib.Core.Bool.{Bool, true, false, _&&_, _||_}
-use mathlib.Core.List.{List, [], _∷_, map}
+use mathlib.Core.List.{List, map}
 use mathlib.Core.Logic.{⊎-elim}
-use native.Mathlib.Nat.{mod-eq-of-lt, add-sub-cancel-left, le-trans, mul-le-mul-right}
+use native.Mathlib.Nat.{mod-eq-of-lt, le-trans, mul-le-mul-right}
 use native.Mathlib.Omega.{arith}
 use lib.Dec.{leb, eqb}
 use lib.ListN.{length, take, drop}
 use borrow.Author.Tests.{leb-true, leb-false, eqb-true, le-leb, lt-leb}
 use Rattle.laws.proofs.Tests.{and-both}
-use Rattle.le.specs.Bytes.{part}
-use Rattle.le.proofs.FieldLaws.{part-length}
+use Rattle.le.proofs.FieldLaws.{part-is, part-length}
 use Rattle.refusal.specs.declared.Verdict.the-variants.{Accepted, Refused}
 use Rattle.refusal.specs.declared.Fault.the-variants.{PageOffset}
-use Rattle.refusal.specs.Order.{_at_, Rule, inOrder, AllHold, none, both}
+use Rattle.refusal.specs.Order.{_at_, inOrder, AllHold, none, both}
 use Rattle.refusal.proofs.OrderLaws.{test-goes, test-ends, accepted-exactly}
 use Rattle.keys.specs.declared.Shape.{Shape}
 use Rattle.keys.specs.declared.Order.the-variants.{Climbing}
@@ -26,11 +25,10 @@ use Rattle.keys.proofs.Climbs.{climbing-is}
 use Rattle.header.specs.Header.{fileEnd}
 use Rattle.header.proofs.HeaderLaws.{end-inside}
 use Rattle.page.specs.declared.Layout.{Layout}
-use Rattle.page.specs.declared.Level.{Level}
-use Rattle.page.specs.declared.Level.the-variants.{AtRoot, Exactly}
+use Rattle.page.specs.declared.Level.the-variants.{Exactly}
 use Rattle.page.specs.declared.Link.{Link}
 use Rattle.page.specs.Layout.{compared, entrySize, mostRoom, shape, FairLayout}
-use Rattle.page.specs.Page.{page, countOf, roomOf, sizeOf, levelOf, entries, keyIn, offsetFits, kindFits, numberFits, checksumFits, levelFits, mayBeEmpty, countsFit, keysFit, bytesRules, pageRules, pageFits}
+use Rattle.page.specs.Page.{page, countOf, roomOf, sizeOf, levelOf, entries, keyIn, offsetFits, levelFits, mayBeEmpty, countsFit, keysFit, bytesRules, pageRules, pageFits}
 
 -- what is compared of a key sought
 pub compared-whole : (L : Layout) (key : ℕ) → L .sought ≡ 8 → key < 18446744073709551616 → key ≡ compared L key
@@ -61,8 +59,8 @@ offset-inside image offset e =
     (end-inside image)
 
 pub page-part : (image : List ℕ) (offset : ℕ) → take (offset + 512 - offset) (drop offset image) ≡ page image offset
-unfolding page part
-page-part image offset = rw add-sub-cancel-left
+unfolding page
+page-part image offset = part-is image offset 512
 
 pub page-length : (image : List ℕ) (offset : ℕ) → offset + 512 ≤ length image → length (page image offset) ≡ 512
 unfolding page

@@ -2,7 +2,7 @@ use mathlib.Core.Path.{ap₂, _∙_}
 use Prim.Native.Nat.{ℕ}
 use mathlib.Core.List.{List}
 use Rattle.block.specs.Block.{plain, fronted, blockBytes}
-use Rattle.block.proofs.BlockLaws.{part-is}
+use Rattle.le.proofs.FieldLaws.{part-is}
 use borrow.Author.Needs.{needs}
 use Rattle.block.proofs.block_into.Statement.{statement}
 use Rattle.block.proofs.block_into.Tie as tie

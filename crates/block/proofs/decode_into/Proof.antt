@@ -1,4 +1,3 @@
-use mathlib.Core.Path.{_≡_, refl, sym, ap, ap₂, _∙_}
 use Rattle.block.specs.Block.{plain}
 use Rattle.block.proofs.Fronts.{front}
 use Rattle.block.proofs.BlockLaws.{plain-length}

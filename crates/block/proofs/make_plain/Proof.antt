@@ -1,4 +1,4 @@
-use mathlib.Core.Path.{_≡_, refl, sym, ap, ap₂, _∙_}
+use mathlib.Core.Path.{sym, _∙_}
 use Rattle.block.specs.Block.{plain}
 use borrow.Author.Needs.{needs}
 use Rattle.block.proofs.make_plain.Statement.{statement}

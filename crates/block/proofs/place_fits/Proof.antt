@@ -1,4 +1,3 @@
-use mathlib.Core.Path.{_≡_, refl, sym, ap, ap₂, _∙_}
 use native.Mathlib.Omega.{arith}
 use Rattle.block.specs.Block.{placeFits}
 use Rattle.block.proofs.BlockLaws.{too-large}

@@ -1,4 +1,4 @@
-use mathlib.Core.Path.{_≡_, refl, sym, ap, ap₂, _∙_}
+use mathlib.Core.Path.{sym, _∙_}
 use native.Mathlib.Omega.{arith}
 use Rattle.block.proofs.BlockLaws.{read-ends, read-short, read-fills, size-of-refused, checked-large, checked-inside}
 use borrow.Author.Needs.{needs}

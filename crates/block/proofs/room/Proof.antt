@@ -1,4 +1,4 @@
-use mathlib.Core.Path.{_≡_, refl, sym, ap, ap₂, _∙_}
+use mathlib.Core.Path.{ap, _∙_}
 use native.Mathlib.Omega.{arith}
 use Rattle.block.specs.declared.Trailer.{Trailer}
 use Rattle.block.specs.Block.{trailer64, roomFor, room}

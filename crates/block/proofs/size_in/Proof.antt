@@ -1,4 +1,3 @@
-use mathlib.Core.Path.{_≡_, refl, sym, ap, ap₂, _∙_}
 use Rattle.block.specs.Block.{sizeIn}
 use borrow.Author.Needs.{needs}
 use Rattle.block.proofs.size_in.Statement.{statement}

@@ -1,4 +1,4 @@
-use mathlib.Core.Path.{_≡_, refl, sym, ap, ap₂, _∙_}
+use mathlib.Core.Path.{ap, _∙_}
 use Rattle.block.specs.Block.{sizeIn, testOf}
 use borrow.Author.Needs.{needs}
 use Rattle.block.proofs.test_block.Statement.{statement}

@@ -2,7 +2,8 @@ use Rattle.block.specs.Block.{trailerOf, stored}
 use mathlib.Core.Path.{_≡_, refl, sym, ap, ap₂, _∙_}
 use native.Mathlib.Omega.{arith}
 use Rattle.laws.proofs.Tests.{fails, holds}
-use Rattle.block.proofs.BlockLaws.{placed-of, room-inside, room-holds, block-ends, block-goes, part-is}
+use Rattle.le.proofs.FieldLaws.{part-is}
+use Rattle.block.proofs.BlockLaws.{placed-of, room-inside, room-holds, block-ends, block-goes}
 use borrow.Author.Needs.{needs}
 use Rattle.block.proofs.test_listed.Statement.{statement}
 use Rattle.block.proofs.test_listed.Tie as tie

@@ -1,8 +1,8 @@
-use mathlib.Core.Path.{ap, ap₂, _∙_}
+use mathlib.Core.Path.{ap₂}
 use Prim.Native.Nat.{ℕ, _+_}
 use mathlib.Core.List.{List}
 use lib.ListN.{getD}
-use Rattle.coding.specs.Table.{codingTable, entry}
+use Rattle.coding.specs.Table.{entry}
 use borrow.Author.Needs.{needs}
 use Rattle.coding.proofs.entry_of.Statement.{statement}
 use Rattle.coding.proofs.entry_of.Tie as tie

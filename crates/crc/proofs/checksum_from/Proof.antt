@@ -1,9 +1,8 @@
-use mathlib.Core.Path.{_≡_, refl, sym, ap, _∙_}
-use Prim.Native.Nat.{ℕ, _≤_, _-_, _+_}
+use mathlib.Core.Path.{_≡_, refl}
+use Prim.Native.Nat.{_≤_, _-_}
 use native.Mathlib.Omega.{arith}
 use lib.ListN.{length, drop}
 use Rattle.crc.proofs.ChecksumLaws.{checksum-next, checksum-done}
-use borrow.Author.Needs.{needs}
 use Rattle.crc.specs.Checksum.{checksumFrom, bits, bit, checksumTable}
 use Rattle.crc.proofs.checksum_from.Statement.{statement}
 use Rattle.crc.proofs.checksum_from.Tie as tie

@@ -1,4 +1,4 @@
-use mathlib.Core.Path.{_≡_, sym, _∙_}
+use mathlib.Core.Path.{sym, _∙_}
 use Rattle.refusal.specs.declared.Verdict.the-variants.{Refused}
 use Rattle.refusal.proofs.OrderLaws.{goes, ends}
 use Rattle.header.proofs.HeaderLaws.{header-is, marks-long}

@@ -1,4 +1,4 @@
-use mathlib.Core.Path.{_≡_, sym, _∙_}
+use mathlib.Core.Path.{sym, _∙_}
 use Rattle.laws.proofs.Tests.{fails, holds}
 use Rattle.refusal.specs.Order.{none, both, here, later}
 use Rattle.refusal.proofs.OrderLaws.{accepted-exactly, refused-exactly}

@@ -1,4 +1,4 @@
-use mathlib.Core.Path.{_≡_, sym, ap, _∙_}
+use mathlib.Core.Path.{sym, ap, _∙_}
 use lib.Dec.{eqb}
 use Rattle.laws.proofs.Tests.{fails, holds}
 use Rattle.refusal.specs.Order.{none, both, here, later}

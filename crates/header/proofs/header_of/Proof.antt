@@ -1,4 +1,4 @@
-use mathlib.Core.Path.{_≡_, sym, _∙_}
+use mathlib.Core.Path.{sym, _∙_}
 use native.Mathlib.Omega.{arith}
 use Rattle.refusal.proofs.OrderLaws.{goes, ends}
 use Rattle.header.specs.declared.HeaderAnswer.the-variants.{Refused}

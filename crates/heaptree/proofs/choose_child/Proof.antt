@@ -1,13 +1,8 @@
-use mathlib.Core.Path.{_≡_, sym, ap, ap₂, _∙_}
-use mathlib.Core.List.{List, [], _∷_}
-use Prim.Native.Nat.{ℕ}
+use mathlib.Core.Path.{sym, ap, _∙_}
+use mathlib.Core.List.{[], _∷_}
 use native.Mathlib.Omega.{arith}
-use Rattle.keys.specs.declared.Seat.{Seat}
-use Rattle.keys.specs.Records.{keysOf}
-use Rattle.keys.specs.Search.{lastAtMost}
 use Rattle.heap.specs.Items.{itemPart}
 use Rattle.heaptree.specs.declared.Branch.{Branch}
-use Rattle.heaptree.specs.declared.HeapTree.{HeapTree}
 use Rattle.heaptree.specs.Value.{indexShape}
 use Rattle.heaptree.proofs.RecordLaws.{records-hold, child-inside, child-none, child-chosen}
 use borrow.Author.Needs.{needs}

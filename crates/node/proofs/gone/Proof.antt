@@ -1,4 +1,3 @@
-use mathlib.Core.Path.{_≡_, refl, sym, ap, ap₂, _∙_, subst}
 use Rattle.node.specs.Steps.{goneRead}
 use borrow.Author.Needs.{needs}
 use Rattle.node.proofs.gone.Statement.{statement}

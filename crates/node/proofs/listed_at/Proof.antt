@@ -1,6 +1,6 @@
 use Rattle.block.specs.declared.Checked.the-variants.{Block}
 use Rattle.block.proofs.BlockLaws.{checked-same, checked-not-absent, checked-not-refused}
-use mathlib.Core.Path.{_≡_, refl, sym, ap, ap₂, _∙_, subst}
+use mathlib.Core.Path.{sym, ap, _∙_}
 use borrow.Author.Needs.{needs}
 use Rattle.node.proofs.listed_at.Statement.{statement}
 use Rattle.node.proofs.listed_at.Tie as tie

@@ -1,9 +1,9 @@
 use Rattle.block.specs.Block.{internal}
-use Prim.Native.Nat.{ℕ, _+_, _-_, _*_, _≤_, _<_}
-use mathlib.Core.Path.{_≡_, refl, sym, ap, ap₂, _∙_, subst}
+use Prim.Native.Nat.{_-_, _≤_}
+use mathlib.Core.Path.{_≡_, sym, ap, _∙_}
 use native.Mathlib.Omega.{arith}
 use borrow.Author.Needs.{needs}
-use Rattle.node.specs.Content.{numberAt, numbersFrom, noneInternal}
+use Rattle.node.specs.Content.{numbersFrom, noneInternal}
 use Rattle.node.proofs.Numbers.{rest, rest-all, internal-here, internal-on, internal-none}
 use Rattle.node.proofs.none_internal.Statement.{statement}
 use Rattle.node.proofs.none_internal.Tie as tie

@@ -1,5 +1,4 @@
-use mathlib.Core.Path.{_≡_, refl, sym, ap, ap₂, _∙_, subst}
-use native.Mathlib.Omega.{arith}
+use mathlib.Core.Path.{sym, _∙_}
 use Rattle.node.proofs.Outcomes.{outcome-of, data-none, data-refused, data-block, none-outcome, refused-outcome, refused-read-is}
 use Rattle.block.proofs.BlockLaws.{checked-large, checked-inside}
 use borrow.Author.Needs.{needs}

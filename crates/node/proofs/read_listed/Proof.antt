@@ -1,6 +1,6 @@
-use mathlib.Core.Path.{_≡_, refl, sym, ap, ap₂, _∙_, subst}
+use mathlib.Core.Path.{sym, _∙_}
 use Rattle.node.proofs.Outcomes.{outcome-of, block-tree, block-own}
-use Rattle.block.proofs.BlockLaws.{part-is}
+use Rattle.le.proofs.FieldLaws.{part-is}
 use borrow.Author.Needs.{needs}
 use Rattle.node.proofs.read_listed.Statement.{statement}
 use Rattle.node.proofs.read_listed.Tie as tie

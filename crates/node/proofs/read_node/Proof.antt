@@ -1,4 +1,4 @@
-use mathlib.Core.Path.{_≡_, refl, sym, ap, ap₂, _∙_, subst}
+use mathlib.Core.Path.{sym, _∙_}
 use Rattle.tree.proofs.Steps.{node-header}
 use Rattle.node.proofs.Outcomes.{outcome-of, node-found, gone-outcome}
 use borrow.Author.Needs.{needs}

@@ -4,7 +4,7 @@ use Rattle.laws.proofs.Tests.{fails, holds}
 use Rattle.refusal.specs.Order.{inOrder}
 use Rattle.page.specs.Page.{bytesRules}
 use Rattle.page.proofs.PageLaws.{offset-inside, page-part, page-goes, page-ends}
-use mathlib.Core.Path.{_≡_, refl, sym, ap, _∙_}
+use mathlib.Core.Path.{ap, _∙_}
 use native.Mathlib.Omega.{arith}
 use borrow.Author.Needs.{needs}
 use Rattle.page.proofs.check_page.Statement.{statement}

@@ -1,4 +1,3 @@
-use mathlib.Core.Path.{_≡_, refl, sym, ap, _∙_}
 use Rattle.page.specs.Page.{levelFits}
 use borrow.Author.Needs.{needs}
 use Rattle.page.proofs.level_fits.Statement.{statement}

@@ -1,4 +1,3 @@
-use mathlib.Core.Path.{_≡_, refl, sym, ap, _∙_}
 use Rattle.tree.specs.Answers.{asNode}
 use borrow.Author.Needs.{needs}
 use Rattle.tree.proofs.as_node.Statement.{statement}

@@ -1,4 +1,4 @@
-use mathlib.Core.Path.{_≡_, refl, sym, ap, _∙_}
+use mathlib.Core.Path.{ap, _∙_}
 use Rattle.page.specs.declared.Layout.{Layout}
 use Rattle.page.proofs.Fairs.{fair-nbt}
 use Rattle.tree.specs.Tree.{treeFits}

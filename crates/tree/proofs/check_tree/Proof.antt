@@ -1,4 +1,4 @@
-use mathlib.Core.Path.{_≡_, refl, sym, ap, _∙_}
+use mathlib.Core.Path.{sym, _∙_}
 use Rattle.header.proofs.HeaderLaws.{header-length}
 use Rattle.tree.proofs.Walk.{tree-refused, tree-on}
 use borrow.Author.Needs.{needs}

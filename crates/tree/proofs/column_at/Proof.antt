@@ -1,4 +1,4 @@
-use mathlib.Core.Path.{_≡_, refl, sym, ap, _∙_}
+use mathlib.Core.Path.{sym, _∙_}
 use Rattle.le.proofs.FieldLaws.{field-part}
 use borrow.Author.Needs.{needs}
 use Rattle.tree.proofs.column_at.Statement.{statement}

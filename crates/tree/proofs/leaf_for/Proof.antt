@@ -1,4 +1,4 @@
-use mathlib.Core.Path.{_≡_, refl, sym, ap, ap₂, _∙_}
+use mathlib.Core.Path.{_∙_}
 use native.Mathlib.Omega.{arith}
 use Rattle.page.proofs.PageLaws.{page-part, page-length}
 use Rattle.tree.proofs.Walk.{accepted-inside, accepted-counts}

@@ -13,10 +13,7 @@ start-in-requires c κs =
     rw (page-part (a .image .now) (a .p .offset))
     (c .before .before .pre .0, page-length (a .image .now) (a .p .offset) (accepted-inside (a .l) (a .image .now) (a .p) ok), accepted-counts (a .l) (a .image .now) (a .p) ok)
 
-returns : tie.Need-returns
-returns c = (c .start-in .ensures .0 ∙ rw page-part, c .start-in .ensures .1)
-
 pub start-for-spec : {M : Type 1} → statement M
 start-for-spec =
     tie.close
-    (tie.spec (λ c. omega (arith, accepted-inside _ _ _ (c .before .pre .1))) (λ c. search needs) (λ c. search needs) (λ c. omega (arith, accepted-inside _ _ _ (c .before .pre .1))) start-in-requires returns)
+    (tie.spec (λ c. omega (arith, accepted-inside _ _ _ (c .before .pre .1))) (λ c. search needs) (λ c. search needs) (λ c. omega (arith, accepted-inside _ _ _ (c .before .pre .1))) start-in-requires (λ c. (c .start-in .ensures .0 ∙ rw page-part, c .start-in .ensures .1)))

@@ -1,4 +1,4 @@
-use mathlib.Core.Path.{_≡_, refl, sym, ap, _∙_}
+use mathlib.Core.Path.{_∙_}
 use native.Mathlib.Omega.{arith}
 use Rattle.laws.proofs.Tests.{fails, holds, not-both}
 use Rattle.page.proofs.PageLaws.{offset-inside, page-part, page-length}
@@ -12,9 +12,6 @@ level-of-requires c κs =
     rw (page-part (a .image .now) (a .offset))
     (c .before .before .before .before .pre, page-length (a .image .now) (a .offset) (offset-inside _ _ (holds _ _ (c .before .before .offset-fits .ensures) (c .before .if1 .left))))
 
-returns-2 : tie.Need-returns-2
-returns-2 c = (λ e. c .level-of .ensures .0 ∙ rw page-part, omega arith)
-
 pub stated-level-spec : {M : Type 1} → statement M
 stated-level-spec =
     tie.close
@@ -26,4 +23,4 @@ stated-level-spec =
     (λ c. search needs)
     (λ c. omega (arith, offset-inside _ _ (holds _ _ (c .before .offset-fits .ensures) (c .if1 .left))))
     level-of-requires
-    returns-2)
+    (λ c. (λ e. c .level-of .ensures .0 ∙ rw page-part, omega arith)))
