@@ -7,7 +7,6 @@ use lib.ListN.{length, drop}
 use Rattle.le.specs.Bytes.{part, field}
 use Rattle.crc.specs.Checksum.{checksum}
 use Rattle.coding.specs.Coding.{decoded}
-use Rattle.refusal.specs.declared.Refusal.{Refusal}
 use Rattle.refusal.specs.declared.Verdict.{Verdict}
 use Rattle.refusal.specs.declared.Fault.the-variants.{BlockUnlisted, BlockOffset, BlockTrailer, BlockChecksum, ShortBuffer}
 use Rattle.refusal.specs.Order.{_at_, _needing_, Rule, rule, inOrder, after}

@@ -6,7 +6,6 @@ use lib.Dec.{eqb, leb}
 use lib.ListN.{length}
 use Rattle.le.specs.Bytes.{part, field, byte}
 use Rattle.crc.specs.Checksum.{checksum}
-use Rattle.refusal.specs.declared.Refusal.{Refusal}
 use Rattle.refusal.specs.declared.Verdict.{Verdict}
 use Rattle.refusal.specs.declared.Fault.the-variants.{ImageLength, Magic, Version, HeaderChecksum, Encoding}
 use Rattle.refusal.specs.Order.{_at_, Rule, rule, inOrder, after}

@@ -1,7 +1,7 @@
 -- What a node read hands out: the bytes of exactly the blocks that the node's data names, in order. Assumes nothing: these are definitions.
 use Prim.Native.Nat.{ℕ, _+_, _*_, _≤_}
 use mathlib.Core.Path.{_≡_}
-use mathlib.Core.Bool.{Bool, true, false}
+use mathlib.Core.Bool.{true, false}
 use mathlib.Core.List.{List, [], _∷_}
 use lib.ListN.{length}
 use Rattle.le.specs.Bytes.{part, field, byte}

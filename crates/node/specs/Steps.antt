@@ -1,7 +1,7 @@
 -- What the steps of a node read come to. Assumes nothing: these are definitions.
 use Prim.Native.Nat.{ℕ}
 use mathlib.Core.Path.{_≡_}
-use mathlib.Core.List.{List, [], _∷_, _++_}
+use mathlib.Core.List.{List, []}
 use Rattle.keys.specs.Plain.{All}
 use Rattle.tree.specs.declared.Listed.{Listed}
 use Rattle.block.specs.declared.Checked.{Checked}

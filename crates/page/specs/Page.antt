@@ -1,6 +1,6 @@
 -- Document 01, "Pages and trees" (003, 2.2.2.7): a page and its tests 6 to 11. Assumes nothing: these are definitions.
 use Prim.Native.Nat.{ℕ, _+_, _/_, _%_}
-use mathlib.Core.Bool.{Bool, true, false, _&&_, _||_}
+use mathlib.Core.Bool.{Bool, false, _&&_, _||_}
 use mathlib.Core.List.{List, [], _∷_, map}
 use lib.Bits.{bitXor}
 use lib.Dec.{leb, eqb}

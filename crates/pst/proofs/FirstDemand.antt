@@ -1,12 +1,11 @@
 -- Demand 1. Assumes nothing.
 use Prim.Native.Nat.{ℕ}
-use mathlib.Core.Path.{_≡_, refl, sym, _∙_}
-use mathlib.Core.List.{List, [], _∷_}
+use mathlib.Core.Path.{_≡_, refl}
+use mathlib.Core.List.{List}
 use lib.ListN.{length}
 use Rattle.refusal.specs.declared.Verdict.{Verdict}
 use Rattle.refusal.specs.declared.Verdict.the-variants.{Accepted, Refused}
-use Rattle.refusal.specs.Order.{_then_, inOrder, demand, after}
-use Rattle.keys.specs.declared.Sought.{Sought}
+use Rattle.refusal.specs.Order.{_then_, inOrder, after}
 use Rattle.keys.specs.declared.Sought.the-variants.{Equal, AtLeast}
 use Rattle.coding.specs.Coding.{methodFits}
 use Rattle.header.specs.Header.{headerRules, headerFits, headerOf}

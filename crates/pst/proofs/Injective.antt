@@ -1,6 +1,5 @@
 -- Each meaning names one answer: answers that mean the same are the same. Assumes nothing.
 use mathlib.Core.Path.{_≡_, refl, sym, ap, ap₂, _∙_}
-use mathlib.Core.List.{List, [], _∷_}
 use Prim.Native.Nat.{ℕ, zero, suc}
 use lib.ListN.{getD}
 use Rattle.refusal.specs.declared.Fault.{Fault}

@@ -1,5 +1,5 @@
 -- Document 01, "Both sides of each line": the marked cases as a single table under a single statement. Assumes nothing.
-use mathlib.Core.Path.{_≡_, refl, ap}
+use mathlib.Core.Path.{_≡_, ap}
 use mathlib.Core.List.{List, [], _∷_}
 use Prim.Native.Nat.{ℕ, _/_, _%_, _^_}
 use lib.Bits.{bitXor, xor-self}

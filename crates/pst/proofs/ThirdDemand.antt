@@ -1,20 +1,15 @@
 -- Demand 3, and what listings tell. Assumes nothing.
-use Prim.Native.Nat.{ℕ, _+_, _*_, _≤_}
-use mathlib.Core.Path.{_≡_, refl, sym, ap, _∙_, subst}
-use mathlib.Core.Bool.{true, false}
-use mathlib.Core.Logic.{_↔_}
+use Prim.Native.Nat.{ℕ, _≤_}
+use mathlib.Core.Path.{_≡_, refl, sym, ap, _∙_}
+use mathlib.Core.Bool.{false}
 use mathlib.Core.Option.{Option, none, some}
-use mathlib.Core.List.{List, [], _∷_, map}
+use mathlib.Core.List.{List, [], _∷_}
 use native.Mathlib.Nat.{le-refl}
 use native.Mathlib.Omega.{arith}
 use lib.ListN.{length, getD}
-use Rattle.le.specs.Bytes.{Bytes}
-use Rattle.laws.proofs.Tests.{not-both}
 use Rattle.refusal.specs.declared.Refusal.{Refusal}
 use Rattle.refusal.specs.declared.Verdict.the-variants.{Accepted}
-use Rattle.keys.specs.declared.Sought.{Sought}
-use Rattle.keys.specs.declared.Sought.the-variants.{Equal, AtLeast}
-use Rattle.keys.specs.Plain.{Missing}
+use Rattle.keys.specs.declared.Sought.the-variants.{AtLeast}
 use Rattle.keys.specs.Search.{withKey}
 use Rattle.keys.proofs.FoundLaws.{missing-exactly}
 use Rattle.search.specs.Answer.{Answer, found, refused, answer}
@@ -25,9 +20,8 @@ use Rattle.page.specs.Layout.{nbt, bbt, compared, FairLayout}
 use Rattle.page.specs.Page.{keyIn}
 use Rattle.page.proofs.Fairs.{fair-nbt, fair-bbt}
 use Rattle.tree.specs.Tree.{treeFits, scan}
-use Rattle.tree.specs.Lookup.{searched, lookup, next, path, pagesRead}
+use Rattle.tree.specs.Lookup.{lookup, next, path}
 use Rattle.tree.specs.Answers.{shown, asNode, asBlock, nodeOf, blockOf, nextNodeOf, nextBlockOf}
-use Rattle.tree.specs.Demand3.{AgreeOnPath, AgreeOnRead}
 use Rattle.tree.proofs.Demand3.{demand3}
 use Rattle.tree.proofs.InOrder.{path-counted, in-order}
 use Rattle.tree.proofs.OffPath.{off-path, off-read}
@@ -35,7 +29,7 @@ use Rattle.tree.proofs.Listing.{listing, lists, few-pages-read}
 use Rattle.pst.specs.Meaning.{Meaning, answered, absent, refuses, verdictMeans, nodeMeans, blockMeans, refusalMeans}
 use Rattle.pst.specs.Meaning as meaning
 use Rattle.pst.specs.Outcomes.{nodesOutcome, blocksOutcome, nodeOutcome, blockOutcome, nextNodeOutcome, nextBlockOutcome}
-use Rattle.pst.specs.Demands.{nodeSays, blockSays, Lookups, Paths, ThirdDemand, FirstFrom, Listings}
+use Rattle.pst.specs.Demands.{nodeSays, blockSays, Lookups, Paths, ThirdDemand, Listings}
 use Rattle.pst.proofs.Injective.{verdict-injective}
 
 -- the case of a meaning, and the count in a lookup's

@@ -12,7 +12,6 @@ use Rattle.refusal.specs.declared.Verdict.the-variants.{Accepted, Refused}
 use Rattle.refusal.specs.Order.{Rule, inOrder, after, _then_, FirstFault}
 use Rattle.refusal.proofs.OrderLaws.{in-order-append, refused-exactly}
 use Rattle.keys.specs.declared.Sought.{Sought}
-use Rattle.keys.specs.Search.{scanned}
 use Rattle.search.specs.SearchTree.{SearchTree, test, children}
 use Rattle.search.specs.Answer.{Answer, found, absent, refused, answer, counted, orNext, inTurn, whereAbsent, turnsOf}
 use Rattle.search.specs.Descent.{picked, descend, ofRead, reads, rulesRead}

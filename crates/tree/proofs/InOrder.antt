@@ -1,17 +1,14 @@
 -- In any image at all: a call is refused with the first fault of the rules that it tries, and counts the pages that it reads; a lookup counts the pages of its path. Assumes nothing.
 use Prim.Native.Nat.{ℕ}
-use mathlib.Core.Path.{_≡_, refl, sym, ap, _∙_, subst}
-use mathlib.Core.Logic.{_↔_}
+use mathlib.Core.Path.{_≡_, sym, subst}
 use mathlib.Core.List.{List, [], map}
 use lib.ListN.{length, length-map}
-use Rattle.refusal.specs.declared.Refusal.{Refusal}
 use Rattle.refusal.specs.declared.Verdict.{Verdict}
 use Rattle.refusal.specs.declared.Verdict.the-variants.{Accepted, Refused}
-use Rattle.refusal.specs.Order.{inOrder, after, FirstFault}
+use Rattle.refusal.specs.Order.{inOrder, after}
 use Rattle.keys.specs.declared.Sought.{Sought}
-use Rattle.keys.specs.declared.Sought.the-variants.{Equal}
 use Rattle.search.specs.Answer.{Answer, refused}
-use Rattle.search.specs.Descent.{descend, reads, rulesRead, pathUnder}
+use Rattle.search.specs.Descent.{descend, reads, pathUnder}
 use Rattle.search.specs.Promises.{Counts}
 use Rattle.search.proofs.Searched.{counts, path-short}
 use Rattle.search.proofs.Tried.{verdictOf, checked-tried, checked-first-fault, checked-counts, reads-counted}
