@@ -1,5 +1,5 @@
 -- What upper layers may know of a page, and what the functions' proofs share. Assumes nothing.
-use Prim.Native.Nat.{ℕ, zero, suc, _+_, _*_, _-_, _%_, _≤_, _<_}
+use Prim.Native.Nat.{ℕ, zero, suc, _+_, _*_, _-_, _%_, _^_, _≤_, _<_}
 use mathlib.Core.Path.{_≡_, refl, sym, ap, _∙_}
 use mathlib.Core.Bool.{Bool, true, false, _&&_, _||_}
 use mathlib.Core.List.{List, map}
@@ -10,16 +10,19 @@ use lib.Dec.{leb, eqb}
 use lib.ListN.{length, take, drop}
 use borrow.Author.Tests.{leb-true, leb-false, eqb-true, le-leb, lt-leb}
 use Rattle.laws.proofs.Tests.{and-both}
+use Rattle.le.specs.Bytes.{Bytes}
 use Rattle.le.proofs.FieldLaws.{part-is, part-length}
+use Rattle.le.proofs.ByteLaws.{part-bytes}
 use Rattle.refusal.specs.declared.Verdict.the-variants.{Accepted, Refused}
 use Rattle.refusal.specs.declared.Fault.the-variants.{PageOffset}
 use Rattle.refusal.specs.Order.{_at_, inOrder, AllHold, none, both}
 use Rattle.refusal.proofs.OrderLaws.{test-goes, test-ends, accepted-exactly}
 use Rattle.keys.specs.declared.Shape.{Shape}
 use Rattle.keys.specs.declared.Order.the-variants.{Climbing}
+use Rattle.keys.specs.Plain.{All}
 use Rattle.keys.specs.Records.{keyOf, records, keysOf, RecordsIn}
 use Rattle.keys.specs.Range.{ordered}
-use Rattle.keys.proofs.RecordLaws.{key-width, keys-width}
+use Rattle.keys.proofs.RecordLaws.{key-width, keys-width, records-short}
 use Rattle.keys.proofs.FoundLaws.{keys-are}
 use Rattle.keys.proofs.Climbs.{climbing-is}
 use Rattle.header.specs.Header.{fileEnd}
@@ -38,6 +41,10 @@ compared-whole L key e h = rw e (sym (mod-eq-of-lt h))
 pub compared-low : (L : Layout) (key : ℕ) → (L .sought ≡ 8 → ⊥) → FairLayout L → key % 4294967296 ≡ compared L key
 unfolding compared
 compared-low L key n fair = ⊎-elim (λ (e : L .sought ≡ 4). rw e) (λ (e : L .sought ≡ 8). absurd (n e)) (fair .sought)
+
+pub compared-small : (L : Layout) (key : ℕ) → key < 256 ^ L .sought → compared L key ≡ key
+unfolding compared
+compared-small L key h = mod-eq-of-lt h
 
 -- a sum compared without being made
 pub ends-late : (offset size end : ℕ) → end < offset → false ≡ leb (offset + size) end
@@ -192,3 +199,13 @@ pub page-keys : (L : Layout) (image : List ℕ) (p : Link) → AllHold (pageRule
     → ordered (p .range) (map (keyIn L) (entries L (page image (p .offset)))) ≡ Climbing
 unfolding pageRules bytesRules keysFit
 page-keys L image p (both o (both k (both n (both c (both t (both s none)))))) = climbing-is _ s
+
+-- the keys of entries made of bytes
+pub entries-short : (L : Layout) (image : List ℕ) → Bytes image → (offset : ℕ) → All (λ e. keyIn L e < 256 ^ L .key) (entries L (page image offset))
+unfolding entries page keyIn shape
+entries-short L image h offset = records-short (shape L 0) (shape L (levelOf L (page image offset))) refl _ (page image offset) (part-bytes image offset 512 h)
+
+-- a page that is the same in two images that end alike has the same rules
+pub rules-agree : (L : Layout) (one other : List ℕ) (p : Link) → fileEnd one ≡ fileEnd other → page one (p .offset) ≡ page other (p .offset) → pageRules L one p ≡ pageRules L other p
+unfolding pageRules offsetFits
+rules-agree L one other p ends e = rw (ends, e)

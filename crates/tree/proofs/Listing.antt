@@ -1,17 +1,15 @@
 -- A listing of an accepted tree is its scan. Assumes nothing.
-use Prim.Native.Nat.{ℕ, zero, suc, _+_, _*_, _^_, _≤_, _<_, zero-le}
+use Prim.Native.Nat.{ℕ, _+_, _*_, _^_, _≤_, _<_, zero-le}
 use mathlib.Core.Path.{_≡_, sym, ap, _∙_}
 use mathlib.Core.List.{List, [], map}
-use native.Mathlib.Nat.{le-trans, mod-eq-of-lt, pow-le-pow-right, zero-lt-suc}
-use lib.ListN.{length, length-map, take, drop}
-use Rattle.le.specs.Bytes.{part, Bytes}
-use Rattle.le.proofs.ByteLaws.{take-bytes, drop-bytes, field-below}
+use native.Mathlib.Nat.{le-trans, pow-le-pow-right, zero-lt-suc}
+use lib.ListN.{length, length-map}
+use Rattle.le.specs.Bytes.{Bytes}
 use Rattle.refusal.specs.declared.Verdict.{Verdict}
 use Rattle.refusal.specs.declared.Verdict.the-variants.{Accepted, Refused}
 use Rattle.refusal.specs.Order.{after}
 use Rattle.keys.specs.declared.Sought.the-variants.{AtLeast}
 use Rattle.keys.specs.Plain.{All}
-use Rattle.keys.specs.Records.{cut, keyOf, records}
 use Rattle.keys.specs.Search.{fromKey}
 use Rattle.keys.proofs.SearchLaws.{all-map}
 use Rattle.search.specs.Answer.{answer}
@@ -23,8 +21,9 @@ use Rattle.search.proofs.Lists.{lists-all}
 use Rattle.header.specs.Header.{headerFits}
 use Rattle.page.specs.declared.Layout.{Layout}
 use Rattle.page.specs.declared.Link.{Link}
-use Rattle.page.specs.Layout.{shape, compared}
-use Rattle.page.specs.Page.{page, entries, keyIn}
+use Rattle.page.specs.Layout.{compared}
+use Rattle.page.specs.Page.{entries, keyIn}
+use Rattle.page.proofs.PageLaws.{compared-small, entries-short}
 use Rattle.tree.specs.Tree.{root, rootLevel, pageTree, treeFits, scan}
 use Rattle.tree.specs.Lookup.{next, pagesRead}
 use Rattle.tree.specs.Listing.{ListingHolds, FewPagesHolds, ListsHolds}
@@ -59,26 +58,16 @@ module _ (L : Layout) where
   abbrev Short : List ℕ → Type 0
   Short e = keyIn L e < 256 ^ L .key
 
-  cut-short : (n size : ℕ) (g : List ℕ) → Bytes g → All Short (cut n size g)
-  unfolding cut keyIn keyOf shape
-  cut-short zero size g h = tt
-  cut-short (suc n) size g h = (field-below (take size g) 0 (L .key) (take-bytes size g h), cut-short n size (drop size g) (drop-bytes size g h))
-
   module _ (image : List ℕ) (h : Bytes image) where
-    entries-short : (offset : ℕ) → All Short (entries L (page image offset))
-    unfolding entries records page part
-    entries-short offset = cut-short _ _ (page image offset) (take-bytes 512 (drop offset image) (drop-bytes offset image h))
-
     scan-short : All Short (scan L image)
     unfolding scan
-    scan-short = all-leaves (pageTree L image) Short (λ l p. entries-short (p .offset)) (rootLevel L image) (root L image)
+    scan-short = all-leaves (pageTree L image) Short (λ l p. entries-short L image h (p .offset)) (rootLevel L image) (root L image)
 
   module _ (image : List ℕ) (ok : treeFits L image ≡ Accepted) where
     here : (k : ℕ) → k < 256 ^ L .sought → Says (next L image k) (fromKey (keyIn L) k (scan L image))
-    unfolding compared
     here k h =
         let s = listing L image ok .answers k in
-        record { count = s .count; is = s .is ∙ ap (λ o. answer o (s .count)) (ap (λ (j : ℕ). fromKey (keyIn L) j (scan L image)) (mod-eq-of-lt h)) }
+        record { count = s .count; is = s .is ∙ ap (λ o. answer o (s .count)) (ap (λ (j : ℕ). fromKey (keyIn L) j (scan L image)) (compared-small L k h)) }
 
 pub lists : ListsHolds
 unfolding scan root

@@ -18,7 +18,8 @@ use Rattle.header.proofs.HeaderLaws.{header-agrees, end-agrees, field-agrees}
 use Rattle.page.specs.declared.Layout.{Layout}
 use Rattle.page.specs.declared.Link.{Link}
 use Rattle.page.specs.Layout.{compared, FairLayout}
-use Rattle.page.specs.Page.{page, levelOf, entries, keyIn, offsetFits, pageRules}
+use Rattle.page.specs.Page.{page, levelOf, entries, keyIn, pageRules}
+use Rattle.page.proofs.PageLaws.{rules-agree}
 use Rattle.tree.specs.Tree.{root, rootLevel, linkOf, pageTree}
 use Rattle.tree.specs.Lookup.{searched, path, pagesRead}
 use Rattle.tree.specs.Demand3.{OffPathHolds, OffReadHolds}
@@ -37,8 +38,7 @@ module _ (L : Layout) (one other : List ℕ) (ends : fileEnd one ≡ fileEnd oth
       (λ l p. entries L (page one (p .offset))) (λ l p. entries L (page other (p .offset)))
 
   alike : (p : Link) → page one (p .offset) ≡ page other (p .offset) → Alike p
-  unfolding pageRules offsetFits
-  alike p e = record { tested = λ l. rw (ends, e); kept = λ l. ap (entries L) e }
+  alike p e = record { tested = λ l. rules-agree L one other p ends e; kept = λ l. ap (entries L) e }
 
   all-alike : (ps : List Link) → All (λ offset. page one offset ≡ page other offset) (map (λ p. p .offset) ps) → All Alike ps
   all-alike [] a = tt
