@@ -92,11 +92,11 @@ module _ {B E : Type 0} (F : SearchTree B E) (s : Sought) (k : ℕ) where
       ∙ ap (λ v. v then inOrder (whereAbsent (go l c) (turnsOf (λ c. go l c) (λ c. rulesRead F s k l c) cs))) (f c)
       ∙ turn-verdict (go l c) _ _ (turns-verdict l cs f)
 
-  after-verdict : (v : Verdict) (rs : List Rule) (a : Answer E) → inOrder rs ≡ verdictOf a
-      → (v then inOrder (after (λ r. []) v rs)) ≡ verdictOf (after refused v (counted 1 a))
+  after-verdict : (v : Verdict) (rs : List Rule) (n : ℕ) (a : Answer E) → inOrder rs ≡ verdictOf a
+      → (v then inOrder (after (λ r. []) v rs)) ≡ verdictOf (after refused v (counted n a))
   unfolding after verdictOf
-  after-verdict Accepted rs a h = h ∙ sym (verdict-counted 1 a)
-  after-verdict (Refused r) rs a h = refl
+  after-verdict Accepted rs n a h = h ∙ sym (verdict-counted n a)
+  after-verdict (Refused r) rs n a h = refl
 
   pub tried : (l : ℕ) (b : B) → inOrder (rulesRead F s k l b) ≡ verdictOf (go l b)
   unfolding ofRead descend test after
@@ -108,7 +108,7 @@ module _ {B E : Type 0} (F : SearchTree B E) (s : Sought) (k : ℕ) where
       then-accepted (Refused r) = refl
   tried (suc l) b =
       in-order-append (F .rules (suc l) b) _
-      ∙ after-verdict (inOrder (F .rules (suc l) b)) _ (inTurn (λ c. go l c) (picked F s k (children F l b))) (turns-verdict l (picked F s k (children F l b)) (tried l))
+      ∙ after-verdict (inOrder (F .rules (suc l) b)) _ _ (inTurn (λ c. go l c) (picked F s k (children F l b))) (turns-verdict l (picked F s k (children F l b)) (tried l))
 
   pub checked-tried : (rs : List Rule) (l : ℕ) (b : B) → inOrder (rs ++ rulesRead F s k l b) ≡ verdictOf (after refused (inOrder rs) (go l b))
   checked-tried rs l b = in-order-append rs (rulesRead F s k l b) ∙ ap (λ v. inOrder rs then v) (tried l b) ∙ sym (verdict-after (inOrder rs) (go l b))
