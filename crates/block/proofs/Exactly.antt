@@ -14,6 +14,7 @@ use Rattle.refusal.specs.declared.Verdict.{Verdict}
 use Rattle.refusal.specs.declared.Verdict.the-variants.{Accepted, Refused}
 use Rattle.refusal.specs.Order.{after, AllHold, none, both, FirstFault}
 use Rattle.refusal.proofs.OrderLaws.{goes, ends, accepted-exactly, refused-exactly}
+use Rattle.keys.specs.Records.{cleared}
 use Rattle.page.specs.Page.{signature}
 use Rattle.tree.specs.declared.Listed.{Listed}
 use Rattle.tree.specs.declared.FoundBlock.{FoundBlock}
@@ -30,8 +31,8 @@ unfolding blockRules trailerRules trailerFits sumFits
 sound-of t image b (both p (both f (both s none))) =
     let placed = placed-of t image b p in
     let g = trailerOf t image b in
-    let x = and-both (eqb (field g 0 2) (b .size) && eqb (field g (t .number) (t .word)) (b .block)) (eqb (field g 2 2) (signature (b .offset) (b .block))) f in
-    let y = and-both (eqb (field g 0 2) (b .size)) (eqb (field g (t .number) (t .word)) (b .block)) (x .0) in
+    let x = and-both (eqb (field g 0 2) (b .size) && eqb (cleared (field g (t .number) (t .word))) (cleared (b .block))) (eqb (field g 2 2) (signature (b .offset) (b .block))) f in
+    let y = and-both (eqb (field g 0 2) (b .size)) (eqb (cleared (field g (t .number) (t .word))) (cleared (b .block))) (x .0) in
     record {
       size-low = leb-true _ _ (placed .some);
       size-high = placed .few;

@@ -10,6 +10,7 @@ use Rattle.coding.specs.Coding.{decoded}
 use Rattle.refusal.specs.declared.Verdict.{Verdict}
 use Rattle.refusal.specs.declared.Fault.the-variants.{BlockUnlisted, BlockOffset, BlockTrailer, BlockChecksum, ShortBuffer}
 use Rattle.refusal.specs.Order.{_at_, _needing_, Rule, rule, inOrder, after}
+use Rattle.keys.specs.Records.{cleared}
 use Rattle.header.specs.Header.{fileEnd, methodOf}
 use Rattle.page.specs.Page.{signature}
 use Rattle.tree.specs.declared.Listed.{Listed}
@@ -33,10 +34,10 @@ roomFor t size = (size + t .length + 63) / 64 * 64
 unfoldable pub room : ℕ → ℕ
 room size = roomFor trailer64 size
 
--- 14: "size and number equal the BBT entry's, signature right", of a trailer's bytes
+-- 14: "size and number equal the BBT entry's, signature right", of a trailer's bytes. 02, 1/13: the number with bit 0 cleared on both sides; "Signature and cyclic key use the number as stored in the BBT leaf entry"
 unfoldable pub trailerFits : Trailer → Listed → List ℕ → Bool
 trailerFits t b bytes =
-    eqb (field bytes 0 2) (b .size) && eqb (field bytes (t .number) (t .word)) (b .block)
+    eqb (field bytes 0 2) (b .size) && eqb (cleared (field bytes (t .number) (t .word))) (cleared (b .block))
     && eqb (field bytes 2 2) (signature (b .offset) (b .block))
 
 -- 15: "checksum of the size bytes as stored, before decoding"

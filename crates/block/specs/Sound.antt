@@ -4,6 +4,7 @@ use mathlib.Core.Path.{_≡_}
 use mathlib.Core.List.{List}
 use Rattle.le.specs.Bytes.{field}
 use Rattle.crc.specs.Checksum.{checksum}
+use Rattle.keys.specs.Records.{cleared}
 use Rattle.header.specs.Header.{fileEnd}
 use Rattle.page.specs.Page.{signature}
 use Rattle.tree.specs.declared.Listed.{Listed}
@@ -19,7 +20,7 @@ pub record BlockSound (t : Trailer) (image : List ℕ) (b : Listed) : Type 0 whe
   pub least : 17408 ≤ b .offset
   pub ends : b .offset + roomFor t (b .size) ≤ fileEnd image
   pub size-same : field (trailerOf t image b) 0 2 ≡ b .size
-  pub number-same : field (trailerOf t image b) (t .number) (t .word) ≡ b .block
+  pub number-same : cleared (field (trailerOf t image b) (t .number) (t .word)) ≡ cleared (b .block)
   pub signed : field (trailerOf t image b) 2 2 ≡ signature (b .offset) (b .block)
   pub summed : field (trailerOf t image b) (t .checksum) 4 ≡ checksum (stored t image b)
 

@@ -87,7 +87,7 @@ fn trailer_fits(t: Trailer, b: Listed, trailer: &[u8]) -> bool
     let stated = le::field_of(trailer, t.number, t.word);
     let number = b.block;
     (size == b.size)
-        & (stated == number)
+        & (keys::cleared(stated) == keys::cleared(number))
         & (le::field2(trailer, 2) == page::signature(b.offset, number))
 }
 

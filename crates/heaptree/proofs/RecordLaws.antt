@@ -16,7 +16,7 @@ use Rattle.keys.specs.declared.Sought.the-variants.{Equal}
 use Rattle.keys.specs.Records.{keyOf, keyAt, keysOf, records, recordsFrom, recordAt, RecordsIn}
 use Rattle.keys.specs.Range.{rangeAt}
 use Rattle.keys.specs.Search.{lastAtMost, firstThat, withKey}
-use Rattle.keys.proofs.RecordLaws.{record-inside, field-at, key-width, record-is}
+use Rattle.keys.proofs.RecordLaws.{record-inside, field-at, key-same, record-is}
 use Rattle.keys.proofs.RangeLaws.{end-same}
 use Rattle.keys.proofs.FoundLaws.{found-inside, record-found, record-absent, chosen-inside}
 use Rattle.search.specs.SearchTree.{offspring, children}
@@ -48,7 +48,7 @@ record-lies shape bytes i h = record-inside (length bytes / shape .size) (shape 
 -- the key of a record is the tree's, whatever its shape
 module _ (tree : HeapTree) where
   pub index-keyed : (e : List ℕ) → keyOf (indexShape tree) e ≡ recordKey tree e
-  index-keyed e = key-width (indexShape tree) (leafShape tree) refl e
+  index-keyed e = key-same (indexShape tree) (leafShape tree) refl refl e
 
   pub keyed : (levels : ℕ) (e : List ℕ) → keyOf (shapeAt tree levels) e ≡ recordKey tree e
   unfolding shapeAt

@@ -1,5 +1,6 @@
 -- What a tree on a heap is told by, and the records that follow from it. Assumes nothing: these are definitions.
 use Prim.Native.Nat.{ℕ, zero, suc, _+_, _≤_}
+use mathlib.Core.Bool.{false}
 use mathlib.Core.List.{List}
 use Rattle.refusal.specs.declared.Refusal.{Refusal}
 use Rattle.refusal.specs.Order.{_at_}
@@ -18,10 +19,10 @@ module _ (tree : HeapTree) where
 
   -- a leaf record is a key and an entry; an index record a key and an item number
   abbrev pub leafShape : Shape
-  leafShape = record { size = tree .key + tree .entry; width = tree .key }
+  leafShape = record { size = tree .key + tree .entry; width = tree .key; reserved = false }
 
   abbrev pub indexShape : Shape
-  indexShape = record { size = tree .key + 4; width = tree .key }
+  indexShape = record { size = tree .key + 4; width = tree .key; reserved = false }
 
   -- the records of an item so many levels above the leaves
   unfoldable pub shapeAt : ℕ → Shape

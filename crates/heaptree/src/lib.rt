@@ -91,11 +91,13 @@ fn shape_at(tree: HeapTree, levels: usize) -> Shape
         return Shape {
             size: tree.key + tree.entry,
             width: tree.key,
+            reserved: false,
         };
     }
     Shape {
         size: tree.key + 4,
         width: tree.key,
+        reserved: false,
     }
 }
 
@@ -148,7 +150,11 @@ fn find_in_leaf(block: &[u8], tree: HeapTree, key: u64, item: u32, count: usize)
     let records = heap::part_of(block, item);
     let width = tree.key;
     let size = width + tree.entry;
-    let shape = Shape { size, width };
+    let shape = Shape {
+        size,
+        width,
+        reserved: false,
+    };
     let seat = keys::first_that(records, shape, count, Sought::Equal, key);
     let Seat::At(i) = seat else {
         return FoundRecord::Absent;
@@ -179,7 +185,11 @@ fn choose_child(block: &[u8], tree: HeapTree, key: u64, branch: Branch, count: u
     let records = heap::part_of(block, item);
     let width = tree.key;
     let size = width + 4;
-    let shape = Shape { size, width };
+    let shape = Shape {
+        size,
+        width,
+        reserved: false,
+    };
     let seat = keys::last_at_most(records, shape, count, key);
     let Seat::At(i) = seat else {
         return Chosen::Nobody;

@@ -12,6 +12,7 @@ use Rattle.laws.proofs.Tests.{and-both, both-and}
 use Rattle.le.specs.Bytes.{part, field}
 use Rattle.refusal.specs.declared.Refusal.{Refusal}
 use Rattle.keys.specs.Plain.{All}
+use Rattle.keys.specs.Records.{cleared}
 use Rattle.keys.specs.Search.{joined}
 use Rattle.tree.specs.declared.Listed.{Listed}
 use Rattle.tree.specs.declared.Node.{Node}
@@ -126,18 +127,18 @@ module _ (image : List ℕ) (b : Listed) where
 named-of : (image : List ℕ) (number : ℕ) (s : List ℕ) → nodeContent image number ≡ bytes s → Named image number s
 named-of image number s e = by-node (nodeOf image number) refl
   where
-    by-checked : (n : Node) (pages : ℕ) → nodeOf image number ≡ node.Found n pages → (n .block ≡ 0 → ⊥) → dataOf image (n .block) ≡ bytes s
+    by-checked : (n : Node) (pages : ℕ) → nodeOf image number ≡ node.Found n pages → (cleared (n .block) ≡ 0 → ⊥) → dataOf image (n .block) ≡ bytes s
         → (c : Checked) → checkedBlock image (n .block) ≡ c → Named image number s
     by-checked n pages f z d (checked.Block b) k = something f z k (hands-of image b s (sym (data-block image (n .block) b z k) ∙ d))
     by-checked n pages f z d (checked.Refused r) k = absurd (no-bytes _ _ s (data-refused image (n .block) r z k) d)
 
-    by-number : (n : Node) (pages : ℕ) → nodeOf image number ≡ node.Found n pages → dataOf image (n .block) ≡ bytes s → (z : Bool) → eqb (n .block) 0 ≡ z → Named image number s
+    by-number : (n : Node) (pages : ℕ) → nodeOf image number ≡ node.Found n pages → dataOf image (n .block) ≡ bytes s → (z : Bool) → eqb (cleared (n .block)) 0 ≡ z → Named image number s
     by-number n pages f d true z =
         subst (Named image number) (same-bytes _ [] s (data-none image (n .block) (eqb-true _ 0 z)) d) (nothing f (eqb-true _ 0 z))
     by-number n pages f d false z = by-checked n pages f (eqb-false _ 0 z) d (checkedBlock image (n .block)) refl
 
     by-node : (f : FoundNode) → nodeOf image number ≡ f → Named image number s
-    by-node (node.Found n pages) f = by-number n pages f (sym (node-found image number n pages f) ∙ e) (eqb (n .block) 0) refl
+    by-node (node.Found n pages) f = by-number n pages f (sym (node-found image number n pages f) ∙ e) (eqb (cleared (n .block)) 0) refl
     by-node (node.Absent pages) f = absurd (not-absent _ s (node-absent image number pages f) e)
     by-node (node.Refused r) f = absurd (no-bytes _ r s (node-refused image number r f) e)
 

@@ -17,6 +17,7 @@ use Rattle.refusal.specs.declared.Refusal.{Refusal}
 use Rattle.refusal.specs.declared.Fault.the-variants.{DataTree, ShortBuffer}
 use Rattle.refusal.specs.Order.{_at_, _needing_}
 use Rattle.refusal.proofs.OrderLaws.{test-goes, test-ends}
+use Rattle.keys.specs.Records.{cleared}
 use Rattle.keys.specs.Search.{joined}
 use Rattle.tree.specs.declared.Listed.{Listed}
 use Rattle.tree.specs.declared.Node.{Node}
@@ -168,17 +169,17 @@ module _ (image : List ℕ) (b : Listed) where
 
 -- a data block's number
 module _ (image : List ℕ) (number : ℕ) where
-  pub data-none : number ≡ 0 → dataOf image number ≡ bytes []
+  pub data-none : cleared number ≡ 0 → dataOf image number ≡ bytes []
   unfolding dataOf
-  data-none e = rw (eq-eqb number 0 e)
+  data-none e = rw (eq-eqb (cleared number) 0 e)
 
-  pub data-refused : (r : Refusal) → (number ≡ 0 → ⊥) → checkedBlock image number ≡ checked.Refused r → dataOf image number ≡ refused r
+  pub data-refused : (r : Refusal) → (cleared number ≡ 0 → ⊥) → checkedBlock image number ≡ checked.Refused r → dataOf image number ≡ refused r
   unfolding dataOf checkedContent
-  data-refused r n e = rw (ne-eqb number 0 n) (ap (checkedContent image) e)
+  data-refused r n e = rw (ne-eqb (cleared number) 0 n) (ap (checkedContent image) e)
 
-  pub data-block : (b : Listed) → (number ≡ 0 → ⊥) → checkedBlock image number ≡ checked.Block b → dataOf image number ≡ blockContent image b
+  pub data-block : (b : Listed) → (cleared number ≡ 0 → ⊥) → checkedBlock image number ≡ checked.Block b → dataOf image number ≡ blockContent image b
   unfolding dataOf checkedContent
-  data-block b n e = rw (ne-eqb number 0 n) (ap (checkedContent image) e)
+  data-block b n e = rw (ne-eqb (cleared number) 0 n) (ap (checkedContent image) e)
 
   -- a node
   pub node-found : (n : Node) (pages : ℕ) → nodeOf image number ≡ node.Found n pages → nodeContent image number ≡ dataOf image (n .block)

@@ -12,6 +12,7 @@ use Rattle.refusal.specs.declared.Fault.the-variants.{DataTree, ShortBuffer}
 use Rattle.refusal.specs.Order.{_at_, _needing_, inOrder, demand, after, _then_}
 use Rattle.refusal.proofs.OrderLaws.{in-order-append}
 use Rattle.keys.specs.declared.Sought.the-variants.{Equal}
+use Rattle.keys.specs.Records.{cleared}
 use Rattle.keys.specs.Search.{joined}
 use Rattle.search.specs.Answer as search
 use Rattle.search.proofs.Tried.{verdictOf}
@@ -101,7 +102,7 @@ module _ (image : List ℕ) where
 
   block-tried : (number : ℕ) → inOrder (dataBlockRules image number) ≡ contentVerdict (dataOf image number)
   unfolding dataBlockRules dataOf
-  block-tried number = by (eqb number 0)
+  block-tried number = by (eqb (cleared number) 0)
     where
       by : (z : Bool) → inOrder (cond z [] (testRules image number ++ passedRules image (checkedBlock image number)))
           ≡ contentVerdict (cond z (bytes []) (checkedContent image (checkedBlock image number)))

@@ -8,6 +8,7 @@ use Rattle.le.specs.Bytes.{part, field, byte}
 use Rattle.refusal.specs.declared.Refusal.{Refusal}
 use Rattle.refusal.specs.declared.Fault.the-variants.{DataTree, ShortBuffer}
 use Rattle.refusal.specs.Order.{_at_, _needing_, demand, after}
+use Rattle.keys.specs.Records.{cleared}
 use Rattle.keys.specs.Search.{joined}
 use Rattle.tree.specs.declared.Listed.{Listed}
 use Rattle.tree.specs.declared.FoundNode.{FoundNode}
@@ -87,9 +88,9 @@ unfoldable pub checkedContent : List ℕ → Checked → Content
 checkedContent image (checked.Block b) = blockContent image b
 checkedContent image (checked.Refused r) = refused r
 
--- "Number 0: no bytes. Any other is looked up and tested (12 to 15)."
+-- "Number 0: no bytes. Any other is looked up and tested (12 to 15)." 02, 1/13: "A data block number of 1 counts as 0."
 unfoldable pub dataOf : List ℕ → ℕ → Content
-dataOf image number = cond (eqb number 0) (bytes []) (checkedContent image (checkedBlock image number))
+dataOf image number = cond (eqb (cleared number) 0) (bytes []) (checkedContent image (checkedBlock image number))
 
 -- "Node data: node lookup (absent is answered), then its data block."
 unfoldable pub foundContent : List ℕ → FoundNode → Content

@@ -6,6 +6,7 @@ use mathlib.Core.List.{List, [], _∷_}
 use lib.ListN.{length}
 use Rattle.le.specs.Bytes.{part, field, byte}
 use Rattle.keys.specs.Plain.{All}
+use Rattle.keys.specs.Records.{cleared}
 use Rattle.keys.specs.Search.{joined}
 use Rattle.tree.specs.declared.Listed.{Listed}
 use Rattle.tree.specs.declared.Node.{Node}
@@ -35,8 +36,8 @@ pub data Hands (image : List ℕ) (b : Listed) : List ℕ → Type 0 where
   children : {bs : List Listed} → internal (b .block) ≡ true → DataTreeSound image (part image (b .offset) (b .size)) bs
       → Hands image b (joined (blockBytes image) bs)
 
--- the data of a node: none where its data block is 0, else what its data block hands out
+-- the data of a node: none where its data block is 0 or counts as 0, else what its data block hands out
 pub data Named (image : List ℕ) (node : ℕ) : List ℕ → Type 0 where
-  nothing : {n : Node} {pages : ℕ} → nodeOf image node ≡ Found n pages → n .block ≡ 0 → Named image node []
-  something : {n : Node} {pages : ℕ} {b : Listed} {s : List ℕ} → nodeOf image node ≡ Found n pages → (n .block ≡ 0 → ⊥)
+  nothing : {n : Node} {pages : ℕ} → nodeOf image node ≡ Found n pages → cleared (n .block) ≡ 0 → Named image node []
+  something : {n : Node} {pages : ℕ} {b : Listed} {s : List ℕ} → nodeOf image node ≡ Found n pages → (cleared (n .block) ≡ 0 → ⊥)
       → checkedBlock image (n .block) ≡ Block b → Hands image b s → Named image node s

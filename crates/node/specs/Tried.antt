@@ -8,6 +8,7 @@ use Rattle.le.specs.Bytes.{part, field}
 use Rattle.refusal.specs.declared.Fault.the-variants.{DataTree, ShortBuffer}
 use Rattle.refusal.specs.Order.{_at_, _needing_, Rule, rule}
 use Rattle.keys.specs.declared.Sought.the-variants.{Equal}
+use Rattle.keys.specs.Records.{cleared}
 use Rattle.keys.specs.Search.{joined}
 use Rattle.page.specs.Layout.{nbt}
 use Rattle.tree.specs.declared.FoundNode.{FoundNode}
@@ -35,9 +36,9 @@ unfoldable pub passedRules : List ℕ → Checked → List Rule
 passedRules image (checked.Block b) = cond (internal (b .block)) (dataTreeRules image (b .offset) (part image (b .offset) (b .size))) []
 passedRules image (checked.Refused r) = []
 
--- "Number 0: no bytes. Any other is looked up and tested (12 to 15)."
+-- "Number 0: no bytes. Any other is looked up and tested (12 to 15)." "A data block number of 1 counts as 0."
 unfoldable pub dataBlockRules : List ℕ → ℕ → List Rule
-dataBlockRules image number = cond (eqb number 0) [] (testRules image number ++ passedRules image (checkedBlock image number))
+dataBlockRules image number = cond (eqb (cleared number) 0) [] (testRules image number ++ passedRules image (checkedBlock image number))
 
 unfoldable pub foundRules : List ℕ → FoundNode → List Rule
 foundRules image (node.Found n pages) = dataBlockRules image (n .block)

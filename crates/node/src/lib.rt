@@ -229,13 +229,13 @@ fn refused_data(checked: Checked) -> NodeRead
     }
 }
 
-// The data under a data block number: none under 0.
+// The data under a data block number: none under 0, and 1 counts as 0.
 fn read_data(image: &[u8], number: u64, out: &mut [u8]) -> NodeRead
     requires { ⌜ headerFits (now image) ≡ Verdict.Accepted ⌝ }
     ensures answer { λ r. ⌜ r ≡ answerTo (dataOf (now (image .entry)) number) (length (now (out .entry))) ⌝ }
     ensures buffer { λ _. ⌜ now (out .exit) ≡ filledBy (dataOf (now (image .entry)) number) (now (out .entry)) ⌝ }
 {
-    if number == 0 {
+    if keys::cleared(number) == 0 {
         return NodeRead::Length(0);
     }
     let checked = block::check_block_in(image, number);

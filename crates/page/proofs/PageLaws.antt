@@ -1,5 +1,5 @@
 -- What upper layers may know of a page, and what the functions' proofs share. Assumes nothing.
-use Prim.Native.Nat.{ℕ, zero, suc, _+_, _*_, _-_, _%_, _^_, _≤_, _<_}
+use Prim.Native.Nat.{ℕ, zero, suc, _+_, _*_, _-_, _/_, _%_, _^_, _≤_, _<_}
 use mathlib.Core.Path.{_≡_, refl, sym, ap, _∙_}
 use mathlib.Core.Bool.{Bool, true, false, _&&_, _||_}
 use mathlib.Core.List.{List, map}
@@ -10,7 +10,7 @@ use lib.Dec.{leb, eqb}
 use lib.ListN.{length, take, drop}
 use borrow.Author.Tests.{leb-true, leb-false, eqb-true, le-leb, lt-leb}
 use Rattle.laws.proofs.Tests.{and-both}
-use Rattle.le.specs.Bytes.{Bytes}
+use Rattle.le.specs.Bytes.{field, Bytes}
 use Rattle.le.proofs.FieldLaws.{part-is, part-length}
 use Rattle.le.proofs.ByteLaws.{part-bytes}
 use Rattle.refusal.specs.declared.Verdict.the-variants.{Accepted, Refused}
@@ -20,9 +20,10 @@ use Rattle.refusal.proofs.OrderLaws.{test-goes, test-ends, accepted-exactly}
 use Rattle.keys.specs.declared.Shape.{Shape}
 use Rattle.keys.specs.declared.Order.the-variants.{Climbing}
 use Rattle.keys.specs.Plain.{All}
-use Rattle.keys.specs.Records.{keyOf, records, keysOf, RecordsIn}
+use Rattle.keys.specs.Records.{cleared, significant, keyOf, records, keysOf, RecordsIn}
 use Rattle.keys.specs.Range.{ordered}
-use Rattle.keys.proofs.RecordLaws.{key-width, keys-width, records-short}
+use Rattle.keys.proofs.ClearedLaws.{significant-most, significant-above}
+use Rattle.keys.proofs.RecordLaws.{key-same, keys-same, records-short}
 use Rattle.keys.proofs.FoundLaws.{keys-are}
 use Rattle.keys.proofs.Climbs.{climbing-is}
 use Rattle.header.specs.Header.{fileEnd}
@@ -30,21 +31,31 @@ use Rattle.header.proofs.HeaderLaws.{end-inside}
 use Rattle.page.specs.declared.Layout.{Layout}
 use Rattle.page.specs.declared.Level.the-variants.{Exactly}
 use Rattle.page.specs.declared.Link.{Link}
-use Rattle.page.specs.Layout.{compared, entrySize, mostRoom, shape, FairLayout}
-use Rattle.page.specs.Page.{page, countOf, roomOf, sizeOf, levelOf, entries, keyIn, offsetFits, levelFits, mayBeEmpty, countsFit, keysFit, bytesRules, pageRules, pageFits}
+use Rattle.page.specs.Layout.{asGiven, compared, entrySize, mostRoom, shape, FairLayout}
+use Rattle.page.specs.Page.{page, countOf, roomOf, sizeOf, levelOf, entries, numberIn, keyIn, offsetFits, levelFits, mayBeEmpty, countsFit, keysFit, bytesRules, pageRules, pageFits}
 
--- what is compared of a key sought
-pub compared-whole : (L : Layout) (key : ℕ) → L .sought ≡ 8 → key < 18446744073709551616 → key ≡ compared L key
-unfolding compared
-compared-whole L key e h = rw e (sym (mod-eq-of-lt h))
+-- a number that a call is given
+pub given-whole : (L : Layout) (number : ℕ) → L .sought ≡ 8 → number < 18446744073709551616 → number ≡ asGiven L number
+unfolding asGiven
+given-whole L number e h = rw e (sym (mod-eq-of-lt h))
 
-pub compared-low : (L : Layout) (key : ℕ) → (L .sought ≡ 8 → ⊥) → FairLayout L → key % 4294967296 ≡ compared L key
-unfolding compared
-compared-low L key n fair = ⊎-elim (λ (e : L .sought ≡ 4). rw e) (λ (e : L .sought ≡ 8). absurd (n e)) (fair .sought)
+pub given-low : (L : Layout) (number : ℕ) → (L .sought ≡ 8 → ⊥) → FairLayout L → number % 4294967296 ≡ asGiven L number
+unfolding asGiven
+given-low L number n fair = ⊎-elim (λ (e : L .sought ≡ 4). rw e) (λ (e : L .sought ≡ 8). absurd (n e)) (fair .sought)
 
-pub compared-small : (L : Layout) (key : ℕ) → key < 256 ^ L .sought → compared L key ≡ key
-unfolding compared
-compared-small L key h = mod-eq-of-lt h
+pub given-small : (L : Layout) (number : ℕ) → number < 256 ^ L .sought → asGiven L number ≡ number
+unfolding asGiven
+given-small L number h = mod-eq-of-lt h
+
+-- where bit 0 is reserved, numbers that differ only there are compared alike
+halves-alike : (L : Layout) (one other : ℕ) → FairLayout L → L .reserved ≡ true → one / 2 ≡ other / 2 → compared L one ≡ compared L other
+unfolding compared asGiven significant cleared
+halves-alike L one other fair r e =
+    ⊎-elim (λ (s : L .sought ≡ 4). rw (r, s) (omega (arith, e))) (λ (s : L .sought ≡ 8). rw (r, s) (omega (arith, e))) (fair .sought)
+
+pub compared-alike : (L : Layout) (one other : ℕ) → FairLayout L → L .reserved ≡ true → cleared one ≡ cleared other → compared L one ≡ compared L other
+unfolding cleared
+compared-alike L one other fair r e = halves-alike L one other fair r (omega (arith, e))
 
 -- a sum compared without being made
 pub ends-late : (offset size end : ℕ) → end < offset → false ≡ leb (offset + size) end
@@ -144,20 +155,24 @@ module _ (L : Layout) (level : ℕ) where
   unfolding shape
   shape-width = refl
 
+  pub shape-reserved : (shape L level) .reserved ≡ L .reserved
+  unfolding shape
+  shape-reserved = refl
+
   pub leaf-size : level ≡ 0 → (shape L level) .size ≡ L .leafsize
   unfolding shape entrySize
   leaf-size e = rw e
 
--- the key of an entry does not depend on the level of its page, but on its width alone
-pub entry-keyed : (L : Layout) (s : Shape) → s .width ≡ L .key → (e : List ℕ) → keyOf s e ≡ keyIn L e
+-- the key of an entry does not depend on the level of its page
+pub entry-keyed : (L : Layout) (s : Shape) → s .width ≡ L .key → s .reserved ≡ L .reserved → (e : List ℕ) → keyOf s e ≡ keyIn L e
 unfolding keyIn
-entry-keyed L s h e = key-width s (shape L 0) (h ∙ sym (shape-width L 0)) e
+entry-keyed L s w r e = key-same s (shape L 0) (w ∙ sym (shape-width L 0)) (r ∙ sym (shape-reserved L 0)) e
 
 pub keys-of-entries : (L : Layout) (g : List ℕ) → keysOf (shape L (levelOf L g)) (countOf L g) g ≡ map (keyIn L) (entries L g)
 unfolding keyIn
 keys-of-entries L g =
     keys-are (shape L (levelOf L g)) (countOf L g) g
-    ∙ keys-width (shape L (levelOf L g)) (shape L 0) (shape-width L (levelOf L g) ∙ sym (shape-width L 0)) (records (shape L (levelOf L g)) (countOf L g) g)
+    ∙ keys-same (shape L (levelOf L g)) (shape L 0) (shape-width L (levelOf L g) ∙ sym (shape-width L 0)) (shape-reserved L (levelOf L g) ∙ sym (shape-reserved L 0)) (records (shape L (levelOf L g)) (countOf L g) g)
     ∙ ap (map (keyOf (shape L 0))) (sym (entries-are L g))
 
 -- a child has the level that is asked for, and is not empty
@@ -200,10 +215,19 @@ pub page-keys : (L : Layout) (image : List ℕ) (p : Link) → AllHold (pageRule
 unfolding pageRules bytesRules keysFit
 page-keys L image p (both o (both k (both n (both c (both t (both s none)))))) = climbing-is _ s
 
--- the keys of entries made of bytes
-pub entries-short : (L : Layout) (image : List ℕ) → Bytes image → (offset : ℕ) → All (λ e. keyIn L e < 256 ^ L .key) (entries L (page image offset))
-unfolding entries page keyIn shape
-entries-short L image h offset = records-short (shape L 0) (shape L (levelOf L (page image offset))) refl _ (page image offset) (part-bytes image offset 512 h)
+-- the numbers of entries made of bytes
+pub entries-short : (L : Layout) (image : List ℕ) → Bytes image → (offset : ℕ) → All (λ e. numberIn L e < 256 ^ L .key) (entries L (page image offset))
+unfolding entries page numberIn
+entries-short L image h offset = records-short (shape L (levelOf L (page image offset))) (L .key) _ (page image offset) (part-bytes image offset 512 h)
+
+-- a number as stored is no lower than its key, and a higher key lies above it too
+pub number-least : (L : Layout) (e : List ℕ) → keyIn L e ≤ numberIn L e
+unfolding keyIn keyOf numberIn shape
+number-least L e = significant-most (L .reserved) (field e 0 (L .key))
+
+pub number-above : (L : Layout) (e f : List ℕ) → keyIn L e < keyIn L f → numberIn L e < keyIn L f
+unfolding keyIn keyOf numberIn shape
+number-above L e f h = significant-above (L .reserved) (field e 0 (L .key)) (field f 0 (L .key)) h
 
 -- a page that is the same in two images that end alike has the same rules
 pub rules-agree : (L : Layout) (one other : List ℕ) (p : Link) → fileEnd one ≡ fileEnd other → page one (p .offset) ≡ page other (p .offset) → pageRules L one p ≡ pageRules L other p

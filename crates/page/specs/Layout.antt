@@ -1,8 +1,10 @@
 -- Document 01, "Pages and trees": what differs between the two trees, as a value. Assumes nothing: these are definitions.
 use Prim.Native.Nat.{ℕ, zero, suc, _+_, _*_, _%_, _^_, _≤_}
 use mathlib.Core.Path.{_≡_}
+use mathlib.Core.Bool.{true, false}
 use mathlib.Core.Logic.{_⊎_}
 use Rattle.keys.specs.declared.Shape.{Shape}
+use Rattle.keys.specs.Records.{significant}
 use Rattle.page.specs.declared.Column.{Column}
 use Rattle.page.specs.declared.Layout.{Layout}
 
@@ -17,6 +19,7 @@ nbt =
       word = 8;
       key = 4;
       sought = 4;
+      reserved = false;
       kind = 0x81;
       counts = 488;
       trailer = 496;
@@ -40,6 +43,7 @@ bbt =
       word = 8;
       key = 8;
       sought = 8;
+      reserved = true;
       kind = 0x80;
       counts = 488;
       trailer = 496;
@@ -55,9 +59,13 @@ bbt =
       fourth = column 18 2;
     }
 
--- "NBT keys, and the node number sought, are compared on their low four bytes. BBT keys are compared as whole eight-byte numbers."
+-- a number that a call is given: "NBT keys, and the node number sought, are compared on their low four bytes"
+unfoldable pub asGiven : Layout → ℕ → ℕ
+asGiven L number = number % 256 ^ L .sought
+
+-- what is compared of a key sought. 02, 1/13: "BBT keys, index keys in the BBT and the number sought are compared with bit 0 cleared"
 unfoldable pub compared : Layout → ℕ → ℕ
-compared L key = key % 256 ^ L .sought
+compared L key = significant (L .reserved) (asGiven L key)
 
 -- "Byte 490 (entry size) is 32 in an NBT leaf, otherwise 24." Leaf means level 0.
 unfoldable pub entrySize : Layout → ℕ → ℕ
@@ -71,7 +79,7 @@ mostRoom L (suc l) = L .indexroom
 
 -- the entries of a page of this level, as records with keys
 unfoldable pub shape : Layout → ℕ → Shape
-shape L level = record { size = entrySize L level; width = L .key }
+shape L level = record { size = entrySize L level; width = L .key; reserved = L .reserved }
 
 -- a column lies in an entry of this size and fits a machine word
 pub record Within (c : Column) (size : ℕ) : Type 0 where

@@ -45,6 +45,10 @@ module _ (L : Layout) (g : List ℕ) where
   unfoldable pub entries : List (List ℕ)
   entries = records (shape L levelOf) countOf g
 
+-- the number at the front of an entry, as stored
+unfoldable pub numberIn : Layout → List ℕ → ℕ
+numberIn L entry = field entry 0 (L .key)
+
 -- the key of an entry, as it is compared
 unfoldable pub keyIn : Layout → List ℕ → ℕ
 keyIn L entry = keyOf (shape L 0) entry

@@ -12,7 +12,7 @@ ghost use lib.Dec.{leb};
 ghost use lib.ListN.{length};
 ghost use Rattle.le.specs.Bytes.{byte};
 ghost use Rattle.refusal.specs.Order.{inOrder};
-ghost use Rattle.page.specs.Layout.{nbt, bbt, FairLayout, compared as comparedOf, entrySize, mostRoom, shape};
+ghost use Rattle.page.specs.Layout.{nbt, bbt, FairLayout, asGiven, compared as comparedOf, entrySize, mostRoom, shape};
 ghost use Rattle.page.specs.Page.{signature as signatureOf, countOf, levelOf, offsetFits, kindFits, numberFits, checksumFits, levelFits, mayBeEmpty, countsFit, keysFit, bytesRules, pageFits};
 
 // The bytes of an entry that hold one of its numbers.
@@ -27,9 +27,11 @@ pub struct Layout {
     pub root: usize,
     // the width of a page number and of an offset
     pub word: usize,
-    // how many bytes of an entry's key, and of a key sought, are compared
+    // how many bytes of an entry's key, and of a key sought, are compared; and whether bit 0 of a
+    // key is reserved, and read as zero
     pub key: usize,
     pub sought: usize,
+    pub reserved: bool,
     // the kind byte
     pub kind: u8,
     // places in the page: count, room, entry size and level; the kind bytes, before which the
@@ -73,6 +75,7 @@ pub fn nodes() -> Layout
         word: 8,
         key: 4,
         sought: 4,
+        reserved: false,
         kind: 0x81,
         counts: 488,
         trailer: 496,
@@ -104,6 +107,7 @@ pub fn blocks() -> Layout
         word: 8,
         key: 8,
         sought: 8,
+        reserved: true,
         kind: 0x80,
         counts: 488,
         trailer: 496,
@@ -126,15 +130,23 @@ pub fn blocks() -> Layout
     }
 }
 
+// A number that a call is given, on the bytes that count.
+pub fn as_given(l: Layout, number: u64) -> u64
+    requires { ⌜ FairLayout l ⌝ }
+    ensures { λ r. ⌜ r ≡ asGiven l number ⌝ }
+{
+    if l.sought == 8 {
+        return number;
+    }
+    number % 4294967296
+}
+
 // What is compared of a key sought.
 pub fn compared(l: Layout, key: u64) -> u64
     requires { ⌜ FairLayout l ⌝ }
     ensures { λ r. ⌜ r ≡ comparedOf l key ⌝ }
 {
-    if l.sought == 8 {
-        return key;
-    }
-    key % 4294967296
+    keys::significant(l.reserved, as_given(l, key))
 }
 
 // A byte as a count.
@@ -233,7 +245,11 @@ pub fn shape_of(l: Layout, level: usize) -> Shape
     ensures { λ r. ⌜ r ≡ shape l level ⌝ }
 {
     let size = entry_size(l, level);
-    Shape { size, width: l.key }
+    Shape {
+        size,
+        width: l.key,
+        reserved: l.reserved,
+    }
 }
 
 // How many entries a page has, its level, and the shape of its entries.

@@ -7,3 +7,4 @@ pub mod Refusals
 pub mod FirstDemand
 pub mod SecondDemand
 pub mod ThirdDemand
+pub mod FirstRequest

@@ -16,6 +16,7 @@ use Rattle.refusal.specs.declared.Fault.the-variants.{Encoding}
 use Rattle.refusal.specs.Order.{_at_, Rule, rule, AllHold, FirstFault}
 use Rattle.keys.specs.declared.Sought.the-variants.{Equal, AtLeast}
 use Rattle.keys.specs.Plain.{Ascending, Missing, Distinct}
+use Rattle.keys.specs.Records.{cleared}
 use Rattle.keys.specs.Search.{withKey, fromKey}
 use Rattle.search.specs.Answer.{Answer, found, answer}
 use Rattle.search.specs.Answer as search
@@ -25,7 +26,7 @@ use Rattle.header.specs.declared.HeaderAnswer.the-variants.{Says}
 use Rattle.header.specs.Header.{headerRules, says}
 use Rattle.header.specs.Sound.{HeaderSound}
 use Rattle.page.specs.declared.Layout.{Layout}
-use Rattle.page.specs.Layout.{nbt, bbt, compared}
+use Rattle.page.specs.Layout.{nbt, bbt, asGiven, compared}
 use Rattle.page.specs.Page.{keyIn}
 use Rattle.tree.specs.declared.Listed.{Listed}
 use Rattle.tree.specs.declared.FoundBlock.the-variants as block
@@ -174,14 +175,24 @@ pub record ThirdDemand : Type 0 where
   pub node-paths : Paths nbt nodeSays nodeOutcome
   pub block-paths : Paths bbt blockSays blockOutcome
 
+-- Request 1/13: two block numbers that differ only in bit 0 are answered alike, whatever the bytes; of a read, every byte of the buffer too
+pub record BitZeroReserved (image : List ℕ) (one other : ℕ) : Type 0 where
+  pub found-alike : blockOutcome image one ≡ blockOutcome image other
+  pub tested-alike : testOutcome image one ≡ testOutcome image other
+  pub read-alike : (out : List ℕ) → readOutcome image one out ≡ readOutcome image other out
+  pub filled-alike : (out : List ℕ) → readBuffer image one out ≡ readBuffer image other out
+
+abbrev pub FirstRequest : Type 0
+FirstRequest = (image : List ℕ) (one other : ℕ) → cleared one ≡ cleared other → BitZeroReserved image one other
+
 -- Beyond the demands: the listings of one tree. The entry or absent, with some count
 pub record FirstFrom (says : Answer (List ℕ) → Meaning) (outcome : Meaning) (entry : Option (List ℕ)) : Type 0 where
   pub pages : ℕ
   pub is : outcome ≡ says (answer entry pages)
 
 pub record Listings (L : Layout) (says : Answer (List ℕ) → Meaning) (check : List ℕ → Meaning) (next : List ℕ → ℕ → Meaning) : Type 0 where
-  -- where the whole-tree check accepts: the first entry of the scan from a key on, and never a refusal; going from 0 lists exactly the scan, and ends
-  pub answers : (image : List ℕ) (from : ℕ) → check image ≡ answered [] → FirstFrom says (next image from) (fromKey (keyIn L) (compared L from) (scan L image))
+  -- where the whole-tree check accepts: the first entry of the scan whose key is at least the number as given, and never a refusal; going from 0, each time one above the number found, lists exactly the scan, and ends
+  pub answers : (image : List ℕ) (from : ℕ) → check image ≡ answered [] → FirstFrom says (next image from) (fromKey (keyIn L) (asGiven L from) (scan L image))
   pub never-refused : (image : List ℕ) (from : ℕ) → check image ≡ answered [] → refuses (next image from) ≡ false
   pub lists : (image : List ℕ) → Bytes image → check image ≡ answered [] → TreeLists L image 0 (scan L image)
   -- in any image at all: the count is the number of pages read, at most twice the root's level plus one are read, and nothing else changes the answer

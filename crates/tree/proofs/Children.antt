@@ -31,29 +31,30 @@ use Rattle.page.specs.declared.Level.the-variants.{Exactly}
 use Rattle.page.specs.declared.Link.{Link}
 use Rattle.page.specs.Layout.{shape, FairLayout}
 use Rattle.page.specs.Page.{page, countOf, levelOf, entries, keyIn, countsFit}
-use Rattle.page.proofs.PageLaws.{entries-are, keys-of-entries, entry-keyed, shape-size, shape-width, leaf-size, entries-held, words-inside, few}
+use Rattle.page.proofs.PageLaws.{entries-are, keys-of-entries, entry-keyed, shape-size, shape-width, shape-reserved, leaf-size, entries-held, words-inside, few}
 use Rattle.tree.specs.declared.Next.the-variants.{Here, NoMore}
 use Rattle.tree.specs.Tree.{linkOf, pageTree}
 use Rattle.tree.specs.Answers.{kidsFrom, chosenOf, nextOf}
 
 -- the child of the i-th entry, by the numbers read
-pub link-is : (L : Layout) (s : Shape) (n : ℕ) (g : List ℕ) (to : End) (i level number offset : ℕ) (range : Range) → L .word * 3 ≤ s .size → s .width ≡ L .key
+pub link-is : (L : Layout) (s : Shape) (n : ℕ) (g : List ℕ) (to : End) (i level number offset : ℕ) (range : Range) → L .word * 3 ≤ s .size → s .width ≡ L .key → s .reserved ≡ L .reserved
     → number ≡ field g (i * s .size + L .word) (L .word) → offset ≡ field g (i * s .size + L .word + L .word) (L .word) → range ≡ rangeAt s n g i to
     → _≡_ {A = Link} (record { number = number; offset = offset; level = Exactly level; range = range }) (childAt (keyIn L) (linkOf L level) to s n g i)
 unfolding linkOf
-link-is L s n g to i level number offset range h w en eo er =
+link-is L s n g to i level number offset range h w r en eo er =
     let p : i * s .size + L .word + L .word ≡ i * s .size + (L .word + L .word) = omega arith in
-    rw (en, eo, er, p, end-same (keyOf s) (keyIn L) (entry-keyed L s w) to (recordsFrom s n g (i + 1)), field-at s g i (L .word) (L .word) (omega arith), field-at s g i (L .word + L .word) (L .word) (omega arith))
+    rw (en, eo, er, p, end-same (keyOf s) (keyIn L) (entry-keyed L s w r) to (recordsFrom s n g (i + 1)), field-at s g i (L .word) (L .word) (omega arith), field-at s g i (L .word + L .word) (L .word) (omega arith))
 
 -- what reading the child of the i-th entry asks, of a page whose counts fit
 pub link-ready : (L : Layout) (p : Link) (g : List ℕ) → FairLayout L → length g ≡ 512 → countsFit L p g ≡ true
     → (s : Shape) (n i : ℕ) → s ≡ shape L (levelOf L g) → n ≡ countOf L g → i < n
-    → RecordsIn s n g × (s .width ≡ L .key) × (L .word * 3 ≤ s .size) × (L .word ≤ 8) × (i < n) × (n ≤ 255)
+    → RecordsIn s n g × (s .width ≡ L .key) × (s .reserved ≡ L .reserved) × (L .word * 3 ≤ s .size) × (L .word ≤ 8) × (i < n) × (n ≤ 255)
 link-ready L p g fair h ok s n i es en l =
     let w = words-inside L p g fair ok in
     let f = few L p g fair ok in (
       rw (es, en) (entries-held L p g fair ok h),
       ap (λ (x : Shape). x .width) es ∙ shape-width L (levelOf L g),
+      ap (λ (x : Shape). x .reserved) es ∙ shape-reserved L (levelOf L g),
       rw (es, shape-size L (levelOf L g)) w,
       fair .word,
       l,
@@ -70,7 +71,7 @@ module _ (L : Layout) (g : List ℕ) where
   own = shape L (levelOf L g)
 
   keyed : (e : List ℕ) → keyOf own e ≡ keyIn L e
-  keyed e = entry-keyed L own (shape-width L (levelOf L g)) e
+  keyed e = entry-keyed L own (shape-width L (levelOf L g)) (shape-reserved L (levelOf L g)) e
 
   pub entries-length : length (entries L g) ≡ countOf L g
   entries-length = ap length (entries-are L g) ∙ records-length own (countOf L g) g

@@ -21,7 +21,7 @@ use Rattle.page.specs.declared.Layout.{Layout}
 use Rattle.page.specs.Layout.{compared}
 use Rattle.page.specs.Page.{keyIn}
 use Rattle.tree.specs.Tree.{root, rootLevel, pageTree, treeFits, scan, allRoutes}
-use Rattle.tree.specs.Lookup.{searched, lookup, path}
+use Rattle.tree.specs.Lookup.{askedFor, searched, lookup, path}
 use Rattle.tree.specs.Demand3.{Demand3, Demand3Holds}
 use Rattle.tree.proofs.Walk.{tree-parts}
 use Rattle.tree.proofs.Searched.{sorted, filled, placed}
@@ -33,7 +33,7 @@ module _ (L : Layout) (image : List ℕ) (ok : treeFits L image ≡ Accepted) wh
   pub tree : checkUnder (pageTree L image) (rootLevel L image) (root L image) ≡ Accepted
   tree = then-right (headerFits image) _ both
 
-  pub from-root : (s : Sought) (key : ℕ) → searched s L image key ≡ descend (pageTree L image) s (compared L key) (rootLevel L image) (root L image)
+  pub from-root : (s : Sought) (key : ℕ) → searched s L image key ≡ descend (pageTree L image) s (askedFor s L key) (rootLevel L image) (root L image)
   unfolding searched
   from-root s key = goes refused _ _ (then-left (headerFits image) _ both)
 

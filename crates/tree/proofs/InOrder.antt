@@ -17,7 +17,7 @@ use Rattle.page.specs.declared.Layout.{Layout}
 use Rattle.page.specs.declared.Link.{Link}
 use Rattle.page.specs.Layout.{compared}
 use Rattle.tree.specs.Tree.{root, rootLevel, pageTree}
-use Rattle.tree.specs.Lookup.{searched, lookup, path, searchRules, pagesRead}
+use Rattle.tree.specs.Lookup.{askedFor, searched, lookup, path, searchRules, pagesRead}
 use Rattle.tree.specs.Demand3.{PathCountedHolds, ReadInOrderHolds}
 
 same-count : (ps : List Link) (a : Answer (List ℕ)) → Counts (length ps) a → Counts (length (map (λ p. p .offset) ps)) a
@@ -36,20 +36,20 @@ path-counted L image key =
 -- the rules tried tell the refusal
 pub search-tried : (s : Sought) (L : Layout) (image : List ℕ) (key : ℕ) → inOrder (searchRules s L image key) ≡ verdictOf (searched s L image key)
 unfolding searched searchRules headerFits
-search-tried s L image key = checked-tried (pageTree L image) s (compared L key) (headerRules image) (rootLevel L image) (root L image)
+search-tried s L image key = checked-tried (pageTree L image) s (askedFor s L key) (headerRules image) (rootLevel L image) (root L image)
 
 pub in-order : ReadInOrderHolds
 unfolding searched searchRules pagesRead headerFits after Counts
 in-order s L image key =
     record {
-      first-fault = λ r. checked-first-fault (pageTree L image) s (compared L key) (headerRules image) (rootLevel L image) (root L image) r;
-      counts = by (headerFits image) (reads-counted (pageTree L image) s (compared L key) (rootLevel L image) (root L image));
+      first-fault = λ r. checked-first-fault (pageTree L image) s (askedFor s L key) (headerRules image) (rootLevel L image) (root L image) r;
+      counts = by (headerFits image) (reads-counted (pageTree L image) s (askedFor s L key) (rootLevel L image) (root L image));
     }
   where
     read : List Link
-    read = reads (pageTree L image) s (compared L key) (rootLevel L image) (root L image)
+    read = reads (pageTree L image) s (askedFor s L key) (rootLevel L image) (root L image)
 
-    by : (v : Verdict) → Counts (length read) (descend (pageTree L image) s (compared L key) (rootLevel L image) (root L image))
-        → Counts (length (after (λ r. []) v (map (λ p. p .offset) read))) (after refused v (descend (pageTree L image) s (compared L key) (rootLevel L image) (root L image)))
-    by Accepted h = same-count read (descend (pageTree L image) s (compared L key) (rootLevel L image) (root L image)) h
+    by : (v : Verdict) → Counts (length read) (descend (pageTree L image) s (askedFor s L key) (rootLevel L image) (root L image))
+        → Counts (length (after (λ r. []) v (map (λ p. p .offset) read))) (after refused v (descend (pageTree L image) s (askedFor s L key) (rootLevel L image) (root L image)))
+    by Accepted h = same-count read (descend (pageTree L image) s (askedFor s L key) (rootLevel L image) (root L image)) h
     by (Refused r) h = tt

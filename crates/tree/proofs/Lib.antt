@@ -8,3 +8,4 @@ pub mod Listing
 pub mod Exactly
 pub mod OffPath
 pub mod InOrder
+pub mod BitZero

@@ -21,9 +21,9 @@ use Rattle.search.proofs.Lists.{lists-all}
 use Rattle.header.specs.Header.{headerFits}
 use Rattle.page.specs.declared.Layout.{Layout}
 use Rattle.page.specs.declared.Link.{Link}
-use Rattle.page.specs.Layout.{compared}
-use Rattle.page.specs.Page.{entries, keyIn}
-use Rattle.page.proofs.PageLaws.{compared-small, entries-short}
+use Rattle.page.specs.Layout.{asGiven}
+use Rattle.page.specs.Page.{entries, numberIn, keyIn}
+use Rattle.page.proofs.PageLaws.{given-small, entries-short, number-least, number-above}
 use Rattle.tree.specs.Tree.{root, rootLevel, pageTree, treeFits, scan}
 use Rattle.tree.specs.Lookup.{next, pagesRead}
 use Rattle.tree.specs.Listing.{ListingHolds, FewPagesHolds, ListsHolds}
@@ -34,10 +34,10 @@ pub listing : ListingHolds
 unfolding scan
 listing L image ok =
     record {
-      answers = λ from. let s = scans L image ok .lists (compared L from) in record { count = s .count; is = from-root L image ok AtLeast from ∙ s .is };
+      answers = λ from. let s = scans L image ok .lists (asGiven L from) in record { count = s .count; is = from-root L image ok AtLeast from ∙ s .is };
       absent-iff = λ from. (
-        (λ t. scans L image ok .lists-none (compared L from) .0 (record { count = t .count; is = sym (from-root L image ok AtLeast from) ∙ t .is })),
-        (λ a. let t = scans L image ok .lists-none (compared L from) .1 a in record { count = t .count; is = from-root L image ok AtLeast from ∙ t .is }),
+        (λ t. scans L image ok .lists-none (asGiven L from) .0 (record { count = t .count; is = sym (from-root L image ok AtLeast from) ∙ t .is })),
+        (λ a. let t = scans L image ok .lists-none (asGiven L from) .1 a in record { count = t .count; is = from-root L image ok AtLeast from ∙ t .is }),
       );
     }
 
@@ -47,16 +47,16 @@ unfolding pagesRead after
 few-pages-read L image from = by (headerFits image)
   where
     read : List Link
-    read = reads (pageTree L image) AtLeast (compared L from) (rootLevel L image) (root L image)
+    read = reads (pageTree L image) AtLeast (asGiven L from) (rootLevel L image) (root L image)
 
     by : (v : Verdict) → length (after (λ r. []) v (map (λ p. p .offset) read)) ≤ 2 * rootLevel L image + 1
-    by Accepted = rw (length-map read (λ p. p .offset)) (few (pageTree L image) (sorted L image) (filled L image) (compared L from) (rootLevel L image) (root L image) .few)
+    by Accepted = rw (length-map read (λ p. p .offset)) (few (pageTree L image) (sorted L image) (filled L image) (asGiven L from) (rootLevel L image) (root L image) .few)
     by (Refused r) = zero-le
 
--- the keys of entries made of bytes
+-- the numbers of entries made of bytes
 module _ (L : Layout) where
   abbrev Short : List ℕ → Type 0
-  Short e = keyIn L e < 256 ^ L .key
+  Short e = numberIn L e < 256 ^ L .key
 
   module _ (image : List ℕ) (h : Bytes image) where
     scan-short : All Short (scan L image)
@@ -67,13 +67,13 @@ module _ (L : Layout) where
     here : (k : ℕ) → k < 256 ^ L .sought → Says (next L image k) (fromKey (keyIn L) k (scan L image))
     here k h =
         let s = listing L image ok .answers k in
-        record { count = s .count; is = s .is ∙ ap (λ o. answer o (s .count)) (ap (λ (j : ℕ). fromKey (keyIn L) j (scan L image)) (compared-small L k h)) }
+        record { count = s .count; is = s .is ∙ ap (λ o. answer o (s .count)) (ap (λ (j : ℕ). fromKey (keyIn L) j (scan L image)) (given-small L k h)) }
 
 pub lists : ListsHolds
 unfolding scan root
 lists L image small bytes ok =
     let powers = pow-le-pow-right {n = 256} (zero-lt-suc 255) small in
     let least = pow-le-pow-right {n = 256} (zero-lt-suc 255) (zero-le {n = L .sought}) in
-    lists-all (next L image) (keyIn L) (256 ^ L .sought) (scan L image) (here L image ok) least
+    lists-all (next L image) (keyIn L) (numberIn L) (record { least = number-least L; above = number-above L }) (256 ^ L .sought) (scan L image) (here L image ok) least
     (leaves-climb (pageTree L image) (sorted L image) (rootLevel L image) (root L image) (tree L image ok))
     (all-map (λ e b. le-trans b powers) (scan L image) (scan-short L image bytes))

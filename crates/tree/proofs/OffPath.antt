@@ -21,7 +21,7 @@ use Rattle.page.specs.Layout.{compared, FairLayout}
 use Rattle.page.specs.Page.{page, levelOf, entries, keyIn, pageRules}
 use Rattle.page.proofs.PageLaws.{rules-agree}
 use Rattle.tree.specs.Tree.{root, rootLevel, linkOf, pageTree}
-use Rattle.tree.specs.Lookup.{searched, path, pagesRead}
+use Rattle.tree.specs.Lookup.{askedFor, searched, path, pagesRead}
 use Rattle.tree.specs.Demand3.{OffPathHolds, OffReadHolds}
 
 root-same : (L : Layout) (one other : List ℕ) → FairLayout L → part one 0 564 ≡ part other 0 564 → root L one ≡ root L other
@@ -56,20 +56,20 @@ off-read s L key one other fair same =
     by (headerFits one) (same .same-pages) ∙ ap (λ (v : Verdict). after refused v (go other)) (header-agrees one other (same .same-length) (same .same-header))
   where
     go : List ℕ → Answer (List ℕ)
-    go image = descend (pageTree L image) s (compared L key) (levelOf L (page image ((root L image) .offset))) (root L image)
+    go image = descend (pageTree L image) s (askedFor s L key) (levelOf L (page image ((root L image) .offset))) (root L image)
 
     read : List Link
-    read = reads (pageTree L one) s (compared L key) (levelOf L (page one ((root L one) .offset))) (root L one)
+    read = reads (pageTree L one) s (askedFor s L key) (levelOf L (page one ((root L one) .offset))) (root L one)
 
     below : All (λ offset. page one offset ≡ page other offset) (map (λ p. p .offset) read) → go one ≡ go other
     below a =
         let ends = end-agrees one other (same .same-length) (same .same-header) in
         let level = levelOf L (page one ((root L one) .offset)) in
-        let first = read-first L one other ends s (compared L key) level (root L one) (λ offset. page one offset ≡ page other offset) a in
+        let first = read-first L one other ends s (askedFor s L key) level (root L one) (λ offset. page one offset ≡ page other offset) a in
         descend-same (keyIn L) (λ p. p .range) (λ l range e. linkOf L l range e) (λ l p. pageRules L one p) (λ l p. pageRules L other p)
-        (λ l p. entries L (page one (p .offset))) (λ l p. entries L (page other (p .offset))) s (compared L key) level (root L one) (all-alike L one other ends read a)
-        ∙ ap (λ (g : List ℕ). descend (pageTree L other) s (compared L key) (levelOf L g) (root L one)) first
-        ∙ ap (λ (p : Link). descend (pageTree L other) s (compared L key) (levelOf L (page other (p .offset))) p) (root-same L one other fair (same .same-header))
+        (λ l p. entries L (page one (p .offset))) (λ l p. entries L (page other (p .offset))) s (askedFor s L key) level (root L one) (all-alike L one other ends read a)
+        ∙ ap (λ (g : List ℕ). descend (pageTree L other) s (askedFor s L key) (levelOf L g) (root L one)) first
+        ∙ ap (λ (p : Link). descend (pageTree L other) s (askedFor s L key) (levelOf L (page other (p .offset))) p) (root-same L one other fair (same .same-header))
 
     by : (v : Verdict) → All (λ offset. page one offset ≡ page other offset) (after (λ r. []) v (map (λ p. p .offset) read)) → after refused v (go one) ≡ after refused v (go other)
     by Accepted a = below a

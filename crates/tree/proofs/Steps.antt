@@ -30,7 +30,7 @@ use Rattle.tree.specs.declared.Found.the-variants.{Entry, Absent, Refuse
 use Rattle.tree.specs.declared.Node.{Node}
 use Rattle.tree.specs.declared.FoundNode.the-variants as node
 use Rattle.tree.specs.Tree.{root, rootLevel, pageTree}
-use Rattle.tree.specs.Lookup.{searched}
+use Rattle.tree.specs.Lookup.{askedFor, searched}
 use Rattle.tree.specs.Answers.{fieldsOf, shown, asNode, nodeOf, nextOf}
 use Rattle.tree.proofs.Walk.{accepted-level, test-is, born-level}
 
@@ -102,7 +102,7 @@ module _ (L : Layout) (image : List ℕ) (s : Sought) where
     unfolding searched
     root-refused r q = sym (ends refused _ _ r (sym header-is ∙ q))
 
-    pub root-on : (p : Link) (l k : ℕ) → v ≡ Accepted → p ≡ root L image → k ≡ compared L key
+    pub root-on : (p : Link) (l k : ℕ) → v ≡ Accepted → p ≡ root L image → k ≡ askedFor s L key
         → (offsetFits image (p .offset) ≡ true → l ≡ levelOf L (page image (p .offset))) → counted 0 (descend (pageTree L image) s k l p) ≡ searched s L image key
     unfolding rootLevel searched
     root-on p l k q e h f =

@@ -1,6 +1,7 @@
 -- Demand 3, of a tree of any layout: what holds of every image whose header and tree are accepted. Assumes nothing: these are definitions.
 use Prim.Native.Nat.{ℕ, _+_, _≤_}
 use mathlib.Core.Path.{_≡_}
+use mathlib.Core.Bool.{true}
 use mathlib.Core.Logic.{_↔_}
 use mathlib.Core.List.{List, map, List·Memᴰ}
 use lib.ListN.{length}
@@ -9,7 +10,9 @@ use Rattle.refusal.specs.declared.Refusal.{Refusal}
 use Rattle.refusal.specs.declared.Verdict.the-variants.{Accepted}
 use Rattle.refusal.specs.Order.{FirstFault}
 use Rattle.keys.specs.declared.Sought.{Sought}
+use Rattle.keys.specs.declared.Sought.the-variants.{Equal}
 use Rattle.keys.specs.Plain.{All, Ascending, Missing, Distinct}
+use Rattle.keys.specs.Records.{cleared}
 use Rattle.keys.specs.Search.{withKey}
 use Rattle.search.specs.Answer.{found, absent, refused, answer}
 use Rattle.search.specs.Promises.{Counts}
@@ -52,6 +55,15 @@ pub record AgreeOnRead (s : Sought) (L : Layout) (key : ℕ) (one other : List �
 
 abbrev pub OffReadHolds : Type 0
 OffReadHolds = (s : Sought) (L : Layout) (key : ℕ) (one other : List ℕ) → FairLayout L → AgreeOnRead s L key one other → searched s L one key ≡ searched s L other key
+
+-- in any image at all, where bit 0 of a key is reserved: two numbers that differ only there are answered alike, by the same path and the same rules
+pub record BitZeroUnread (L : Layout) (image : List ℕ) (one other : ℕ) : Type 0 where
+  pub answers : lookup L image one ≡ lookup L image other
+  pub paths : path L image one ≡ path L image other
+  pub rules : searchRules Equal L image one ≡ searchRules Equal L image other
+
+abbrev pub BitZeroUnreadHolds : Type 0
+BitZeroUnreadHolds = (L : Layout) (image : List ℕ) (one other : ℕ) → FairLayout L → L .reserved ≡ true → cleared one ≡ cleared other → BitZeroUnread L image one other
 
 -- in any image at all: the count is the length of the path, unless the lookup is refused; and the path is short
 pub record PathCounted (L : Layout) (image : List ℕ) (key : ℕ) : Type 0 where

@@ -88,7 +88,7 @@ fn link_at(
     to: End,
     i: usize,
 ) -> Link
-    requires { ⌜ RecordsIn shape count (now page) × (shape .width ≡ l .key) × (l .word * 3 ≤ shape .size) × (l .word ≤ 8) × (i < count) × (count ≤ 255) ⌝ }
+    requires { ⌜ RecordsIn shape count (now page) × (shape .width ≡ l .key) × (shape .reserved ≡ l .reserved) × (l .word * 3 ≤ shape .size) × (l .word ≤ 8) × (i < count) × (count ≤ 255) ⌝ }
     ensures { λ r. ⌜ r ≡ childAt (keyIn l) (linkOf l level) to shape count (now (page .entry)) i ⌝ }
 {
     let word = l.word;
@@ -392,7 +392,7 @@ fn find_next(image: &[u8], l: Layout, from: u64) -> Found
     }
     let p = root_link(image, l);
     let level = stated_level(image, l, p.offset);
-    seek(image, l, level, p, page::compared(l, from), 0)
+    seek(image, l, level, p, page::as_given(l, from), 0)
 }
 
 pub fn check_nodes(image: &[u8]) -> Verdict

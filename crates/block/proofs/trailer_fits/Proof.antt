@@ -5,7 +5,15 @@ use Rattle.block.proofs.trailer_fits.Tie as tie
 
 returns : tie.Need-returns
 unfolding trailerFits
-returns c = rw (c .before .before .before .before .field2 .ensures, c .before .before .before .field-of .ensures .0, c .before .field22 .ensures, c .signature .ensures)
+returns c =
+    rw (
+      c .before .before .before .before .before .before .field2 .ensures,
+      c .before .before .before .cleared .ensures,
+      c .before .before .cleared2 .ensures,
+      c .before .before .before .before .before .field-of .ensures .0,
+      c .before .field22 .ensures,
+      c .signature .ensures,
+    )
 
 pub trailer-fits-spec : {M : Type 1} → statement M
 trailer-fits-spec =
@@ -13,6 +21,8 @@ trailer-fits-spec =
     (tie.spec
     (λ c κs. search needs)
     (λ c. search needs)
+    (λ c κs. search needs)
+    (λ c κs. search needs)
     (λ c κs. search needs)
     (λ c κs. search needs)
     (λ c κs. search needs)

@@ -25,7 +25,7 @@ returns-2 c =
     let a = c .before .before .before .before .before .before .before .before .args in
     c .seek .ensures
     ∙ ap (shown (a .l))
-    (root-on (a .l) (a .image .now) AtLeast (a .from) _ (c .before .before .before .before .before .before .check-header .ensures) _ _ _ (c .before .before .before .before .enum-told .given .1) (c .before .before .before .root-link .ensures) (c .before .compared .ensures) (c .before .before .stated-level .ensures .0))
+    (root-on (a .l) (a .image .now) AtLeast (a .from) _ (c .before .before .before .before .before .before .check-header .ensures) _ _ _ (c .before .before .before .before .enum-told .given .1) (c .before .before .before .root-link .ensures) (c .before .as-given .ensures) (c .before .before .stated-level .ensures .0))
 
 pub find-next-spec : {M : Type 1} → statement M
 find-next-spec =
