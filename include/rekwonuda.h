@@ -17,6 +17,13 @@
  * "Absent" is an ordinary answer and no refusal: `found` is 0 where it is absent, 1 where it is there.
  * All offsets are in bytes and begin at 0.
  *
+ * Bit 0 (value 1) of a block number is reserved. Where block numbers are compared, in the block tree,
+ * in a block's trailer and with the number asked for, they are compared with that bit cleared: two
+ * entries of the block tree that differ only there are equal, which is refused with 11, and
+ * rkw_find_block, rkw_test_block and rkw_read_block answer alike for two numbers that differ only
+ * there. The bit counts where a number goes into a signature or a cyclic key, and in page numbers and
+ * node numbers.
+ *
  * Refusals, each with its place:
  *    1  the image is under 564 or over 1,073,741,824 bytes long; 0
  *    2  the magic bytes are wrong; 0 or 8
@@ -64,8 +71,8 @@ struct rkw_header_answer {
 };
 
 /* A node. found: 1 or 0. pages: how many pages were read, also where the node is absent.
- * node: its number; data: the number of its data block, 0 for none; subnode: the number of its
- * subnode block, 0 for none; parent: the number of its parent node. */
+ * node: its number; data: the number of its data block as stored, 0 or 1 for none; subnode: the
+ * number of its subnode block, 0 for none; parent: the number of its parent node. */
 struct rkw_node_answer {
     uint64_t refusal, place, more;
     uint64_t found, pages, node, data, subnode, parent;
@@ -124,14 +131,16 @@ struct rkw_answer rkw_check_blocks(const uint8_t *image, size_t len);
  * checked in full. Refusals 1 to 11. */
 struct rkw_node_answer rkw_find_node(const uint8_t *image, size_t len, uint64_t node);
 
-/* Looks up a block by its number, with the same checks. Refusals 1 to 11. */
+/* Looks up a block by its number, bit 0 left out, with the same checks; answers the number as stored.
+ * Refusals 1 to 11. */
 struct rkw_block_answer rkw_find_block(const uint8_t *image, size_t len, uint64_t block);
 
-/* The first node, or block, whose number is at least `from`, answered as by the lookup; a node by the
- * low four bytes of both. Going from 0, each time one above the number found, goes through a whole
- * checked tree in order; there is none behind node 0xFFFFFFFF and block 0xFFFFFFFFFFFFFFFF, so end
- * there too. The header and every page read are checked in full; of a tree whose root has level n at
- * most 2n + 1 pages are read. Refusals 1 to 11. */
+/* The first node, or block, whose number is at least `from`, answered as by the lookup. Of a node the
+ * low four bytes of both numbers are compared; of a block its number with bit 0 cleared, and `from` as
+ * given, so that one above a block's number is behind it. Going from 0, each time one above the number
+ * found, goes through a whole checked tree in order; there is none behind node 0xFFFFFFFF and block
+ * 0xFFFFFFFFFFFFFFFF, so end there too. The header and every page read are checked in full; of a tree
+ * whose root has level n at most 2n + 1 pages are read. Refusals 1 to 11. */
 struct rkw_node_answer rkw_next_node(const uint8_t *image, size_t len, uint64_t from);
 struct rkw_block_answer rkw_next_block(const uint8_t *image, size_t len, uint64_t from);
 

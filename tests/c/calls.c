@@ -99,9 +99,9 @@ static void block(const char *call, struct rkw_block_answer a)
     printf("\n");
 }
 
-static void call_test_block(const uint8_t *in)
+static void call_test_block(const uint8_t *in, uint64_t number)
 {
-    struct rkw_size_answer a = rkw_test_block(in, IMAGE, BLOCK);
+    struct rkw_size_answer a = rkw_test_block(in, IMAGE, number);
     refusal("rkw_test_block", a.refusal, a.place, a.more);
     field("size", a.size);
     printf("\n");
@@ -176,6 +176,7 @@ static void call_trees(void)
     node("rkw_find_node", rkw_find_node(image, IMAGE, 0x20));
     node("rkw_find_node", rkw_find_node(image, IMAGE, 0x804F));
     block("rkw_find_block", rkw_find_block(image, IMAGE, 0x40));
+    block("rkw_find_block", rkw_find_block(image, IMAGE, 0x41));
     block("rkw_find_block", rkw_find_block(image, IMAGE, 3));
     block("rkw_find_block", rkw_find_block(image, IMAGE, 0x74));
     node("rkw_next_node", rkw_next_node(image, IMAGE, 0x122));
@@ -183,13 +184,15 @@ static void call_trees(void)
     node("rkw_next_node", rkw_next_node(image, IMAGE, 0x62C));
     block("rkw_next_block", rkw_next_block(image, IMAGE, 0));
     block("rkw_next_block", rkw_next_block(image, IMAGE, 0x39));
+    block("rkw_next_block", rkw_next_block(image, IMAGE, 0x41));
     block("rkw_next_block", rkw_next_block(image, IMAGE, 0x71));
 }
 
 static void call_blocks(void)
 {
-    call_test_block(image);
-    call_test_block(filled);
+    call_test_block(image, BLOCK);
+    call_test_block(filled, BLOCK);
+    call_test_block(filled, BLOCK + 1);
     call_read_block(sizeof out);
     call_read_block(SIZE - 1);
     call_read_node(0x60D, sizeof out);

@@ -199,12 +199,12 @@ impl Check<'_, '_> {
             .clone()
             .wrap_iter(walk::nodes(self.source).flatten())
         {
-            let tested = match known.get(&node.data) {
+            let tested = match known.get(&node.data.map(BlockId::key)) {
                 Some(tested) => *tested,
                 None => image.test_node(node.id).map(Option::unwrap_or_default),
             };
             if node.has_data_tree() && known.len() < MOST_HELD {
-                known.insert(node.data, tested);
+                known.insert(node.data.map(BlockId::key), tested);
             }
             if let Err(refusal) = tally.note(tested) {
                 if self.refuse(refusal, &Spot::Data(node))? {

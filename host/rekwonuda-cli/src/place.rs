@@ -153,7 +153,7 @@ fn block_of_node(source: &Source, refusal: &Refusal, node: &Node) -> String {
     let data = node.data.unwrap_or_default();
     match refusal.fault {
         Fault::BlockUnlisted => match missing(source, node) {
-            Some(block) if block != data => format!("block {block}, a part of {whose}"),
+            Some(block) if block.key() != data.key() => format!("block {block}, a part of {whose}"),
             _ => format!("block {data}, {whose}"),
         },
         Fault::DataTree => format!("{at}: block {data}, which lists {whose}"),

@@ -43,12 +43,12 @@ impl Users {
     }
 }
 
-/// The users of each of some blocks, which ascend, as far as the node tree can be read.
+/// The users of each of some blocks, whose keys ascend, as far as the node tree can be read.
 pub fn users(source: &Source, blocks: &[BlockId]) -> Vec<Users> {
     let mut users = vec![Users::default(); blocks.len()];
     for node in walk::nodes(source).flatten() {
         for block in asked(source, &node) {
-            if let Ok(at) = blocks.binary_search(&block) {
+            if let Ok(at) = blocks.binary_search_by_key(&block.key(), |listed| listed.key()) {
                 users[at].add(node.id);
             }
         }
@@ -65,7 +65,7 @@ fn asked(source: &Source, node: &Node) -> Vec<BlockId> {
     let mut asked = source.image().data_blocks(data).unwrap_or_default();
     asked.push(data);
     asked.sort_unstable();
-    asked.dedup();
+    asked.dedup_by_key(|block| block.key());
     asked
 }
 

@@ -71,7 +71,7 @@ answers! {
         pages,
         /// Its number.
         node,
-        /// The number of its data block, 0 for none.
+        /// The number of its data block as stored, 0 or 1 for none.
         data,
         /// The number of its subnode block, 0 for none.
         subnode,

@@ -81,7 +81,7 @@ pub fn find_node(image: &[u8], node: u64) -> NodeAnswer {
     unsafe { rkw_find_node(image.as_ptr(), image.len(), node) }
 }
 
-/// Looks up a block by its number. Refusals 1 to 11.
+/// Looks up a block by its number, bit 0 left out. Refusals 1 to 11.
 pub fn find_block(image: &[u8], block: u64) -> BlockAnswer {
     // SAFETY: the pointer and the length are those of one slice.
     unsafe { rkw_find_block(image.as_ptr(), image.len(), block) }
@@ -93,7 +93,8 @@ pub fn next_node(image: &[u8], from: u64) -> NodeAnswer {
     unsafe { rkw_next_node(image.as_ptr(), image.len(), from) }
 }
 
-/// Looks up the first block whose number is at least `from`. Refusals 1 to 11.
+/// Looks up the first block whose number, with bit 0 cleared, is at least `from` as given. Refusals 1
+/// to 11.
 pub fn next_block(image: &[u8], from: u64) -> BlockAnswer {
     // SAFETY: the pointer and the length are those of one slice.
     unsafe { rkw_next_block(image.as_ptr(), image.len(), from) }

@@ -78,7 +78,8 @@ pub struct Lookup<T> {
 pub struct Node {
     /// Its number.
     pub id: NodeId,
-    /// Its data block, or the root block of its data tree.
+    /// Its data block, or the root block of its data tree; `None` where the number stored is 0, or 1,
+    /// which counts as 0.
     pub data: Option<BlockId>,
     /// Its subnode block.
     pub subnodes: Option<BlockId>,
@@ -138,7 +139,7 @@ impl Lookup<Node> {
     pub(crate) fn of(answer: &NodeAnswer) -> Self {
         let node = Node {
             id: NodeId(answer.node as u32),
-            data: BlockId::unless_zero(answer.data),
+            data: BlockId::of_data(answer.data),
             subnodes: BlockId::unless_zero(answer.subnode),
             parent: NodeId(answer.parent as u32),
         };

@@ -50,7 +50,8 @@ id! {
 }
 
 id! {
-    /// The number of a block.
+    /// The number of a block. Bit 0 is reserved: numbers that differ only there name one block, and every
+    /// call that looks a block up answers alike for them. As values they differ; see [`BlockId::key`].
     ///
     /// ```
     /// use rekwonuda::BlockId;
@@ -58,6 +59,7 @@ id! {
     /// assert!(BlockId(0x1A).is_internal());
     /// assert!(!BlockId(0x1C).is_internal());
     /// assert_eq!(u64::from(BlockId(0x1C)), 28);
+    /// assert_eq!(BlockId(0x1519).key(), BlockId(0x1518).key());
     /// ```
     BlockId(u64)
 }
@@ -80,6 +82,17 @@ impl BlockId {
     #[must_use]
     pub const fn is_internal(self) -> bool {
         self.0 & 2 != 0
+    }
+
+    /// The number with bit 0 cleared, by which blocks are looked up and ordered.
+    #[must_use]
+    pub const fn key(self) -> Self {
+        Self(self.0 & !1)
+    }
+
+    /// The data block of that number, where 0 stands for none and 1 counts as 0.
+    pub(crate) fn of_data(number: u64) -> Option<Self> {
+        (Self(number).key().0 != 0).then_some(Self(number))
     }
 
     /// The block of that number, where 0 stands for none.

@@ -72,7 +72,8 @@ impl<'a> Image<'a> {
         answered(sys::find_node(self.0, node.0.into())).map(|answer| Lookup::<Node>::of(&answer))
     }
 
-    /// Looks up a block.
+    /// Looks up a block. Bit 0 of the number counts neither here nor in the block tree; the block is
+    /// answered with its number as stored.
     ///
     /// # Errors
     ///
@@ -90,7 +91,8 @@ impl<'a> Image<'a> {
         answered(sys::next_node(self.0, from.0.into())).map(|answer| Lookup::<Node>::of(&answer))
     }
 
-    /// Looks up the first block whose number is at least `from`.
+    /// Looks up the first block whose number, with bit 0 cleared, is at least `from` as given: so one
+    /// above the number of a block is behind it, whether that has the bit or not.
     ///
     /// # Errors
     ///
