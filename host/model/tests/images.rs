@@ -16,6 +16,19 @@ fn every_refusal() {
     assert_eq!(names.len(), images.len());
 }
 
+/// An image named for a refusal leads to it.
+#[test]
+fn refusals_by_name() {
+    for image in images() {
+        let Some(rest) = image.name.strip_prefix("refusal-") else {
+            continue;
+        };
+        let (number, _) = rest.split_once('-').expect("a number and a word");
+        let number = number.parse().expect("a number");
+        assert!(refusals(&image).contains(&number), "{}", image.name);
+    }
+}
+
 #[test]
 fn the_same_each_time() {
     let bytes = |images: Vec<model::images::Image>| {
