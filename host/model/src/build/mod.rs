@@ -54,6 +54,11 @@ pub struct Plan {
     pub tidy: bool,
 }
 
+/// What tells blocks apart.
+pub fn without_bit_0(number: u64) -> u64 {
+    number & !1
+}
+
 #[derive(Clone, Debug)]
 pub struct PlacedPage {
     pub tree: Tree,
