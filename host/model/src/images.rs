@@ -1,5 +1,5 @@
-//! A choice of small images, the same each time: valid ones of each method and depth, and damaged
-//! ones that together reach every refusal.
+//! A choice of small images, the same each time: some of each method and depth, and damaged ones that
+//! together reach every refusal.
 
 use crate::build::heaps::PlacedHeap;
 use crate::build::seal::seal_block;
@@ -28,6 +28,9 @@ pub struct Image {
 
 const BUFFER: usize = 65_536;
 const MOST_ASKED: usize = 6;
+
+/// The image of that depth in which two keys of an index page are equal without bit 0.
+const TWIN_KEYS: &str = "permute-level-2";
 
 /// Refusal, kind of damage, sealed, and a seed by which the one leads to the other.
 const DAMAGED: &[(u64, Damage, bool, u64)] = &[
@@ -63,7 +66,7 @@ const DAMAGED_HEAPS: &[(u64, HeapDamage, u64)] = &[
 ];
 
 pub fn images() -> Vec<Image> {
-    let mut images = valid();
+    let mut images = shapes();
     images.push(short_image());
     images.extend(
         DAMAGED
@@ -97,7 +100,7 @@ fn base(method: u8, level: u8, index_levels: u8) -> Plan {
     }
 }
 
-fn valid() -> Vec<Image> {
+fn shapes() -> Vec<Image> {
     let shapes = [
         ("none-level-0", NONE, 0, 0),
         ("permute-level-0", PERMUTE, 0, 1),
@@ -112,7 +115,12 @@ fn valid() -> Vec<Image> {
     let mut images = vec![image_of("empty", empty.image.clone(), &empty)];
     for (name, method, level, index_levels) in shapes {
         let built = build(u64::from(level) + 2, &base(method, level, index_levels));
-        images.push(image_of(name, built.image.clone(), &built));
+        let bytes = if name == TWIN_KEYS {
+            spoil(&built, Damage::KeyTwin, true, &mut Random::new(0)).image
+        } else {
+            built.image.clone()
+        };
+        images.push(image_of(name, bytes, &built));
     }
     images
 }

@@ -1,7 +1,7 @@
 //! Every built image is accepted, and everything placed in it is read back.
 
 use model::build::heaps::{property_context, HeapPlan, PlacedHeap};
-use model::build::{build, build_small, Built, Plan, MOST_SMALL};
+use model::build::{build, build_small, build_small_loose, without_bit_0, Built, Plan, MOST_SMALL};
 use model::random::Random;
 use model::{Block, Lookup, Refusal};
 use std::collections::BTreeSet;
@@ -107,6 +107,18 @@ fn small_images() {
         assert_read_back(&built);
         assert_listing(&built);
         assert_eq!(built.image, build_small(seed).image);
+    }
+}
+
+/// No two listed numbers are equal without bit 0, whatever is drawn.
+#[test]
+fn blocks_apart() {
+    for seed in 0..300 {
+        for built in [build_small(seed), build_small_loose(seed)] {
+            let numbers = built.block_numbers().into_iter();
+            let apart: BTreeSet<_> = numbers.map(without_bit_0).collect();
+            assert_eq!(apart.len(), built.blocks.len(), "seed {seed}");
+        }
     }
 }
 
