@@ -1,5 +1,7 @@
-//! A choice of small images, the same each time: some of each method and depth, and damaged ones that
-//! together reach every refusal.
+//! A choice of small images, the same each time: some of each method and depth, damaged ones that
+//! together reach every refusal, and those that turn on bit 0 of a block's number.
+
+mod bit_0;
 
 use crate::build::heaps::PlacedHeap;
 use crate::build::seal::seal_block;
@@ -79,6 +81,7 @@ pub fn images() -> Vec<Image> {
             .iter()
             .map(|&(number, damage, seed)| damaged_heap(number, damage, seed)),
     );
+    images.extend(bit_0::images());
     images
 }
 

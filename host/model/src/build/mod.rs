@@ -1,6 +1,7 @@
 //! A builder of valid images, the same for the same seed and plan. It answers the image along with
 //! what was placed in it.
 
+pub mod bit_0;
 mod blocks;
 pub mod heaps;
 pub mod office;
