@@ -68,6 +68,11 @@ impl Call {
         matches!(self, Call::FindNode | Call::ReadNode)
     }
 
+    /// Whether the call seeks a block, so that bit 0 of its number makes no difference.
+    pub fn seeks_block(self) -> bool {
+        matches!(self, Call::FindBlock | Call::TestBlock | Call::ReadBlock)
+    }
+
     /// Whether the answer's fourth field says found or absent.
     pub fn may_be_absent(self) -> bool {
         if matches!(self, Call::NextNode | Call::NextBlock) {
@@ -166,6 +171,28 @@ pub fn ask(ask: &Ask, lent: &[u8], own: &[u8], buffers: &mut Buffers) -> Answers
         }
         _ => look(ask, lent, own),
     }
+}
+
+/// Whether the proved library answers the number and the number with bit 0 the other way alike, in
+/// every field and every byte of the buffer.
+pub fn alike_either_way(ask: &Ask, lent: &[u8], buffers: &mut Buffers) -> bool {
+    buffers.set(&[], ask.out_length, ask.number as u8);
+    let [number, other] = [ask.number, ask.number ^ 1];
+    let (out, other_out) = buffers.lend();
+    let alike = match ask.call {
+        Call::FindBlock => {
+            proved::find_block(lent, number).fields() == proved::find_block(lent, other).fields()
+        }
+        Call::TestBlock => {
+            proved::test_block(lent, number).fields() == proved::test_block(lent, other).fields()
+        }
+        Call::ReadBlock => {
+            proved::read_block(lent, number, out).fields()
+                == proved::read_block(lent, other, other_out).fields()
+        }
+        _ => true,
+    };
+    alike && buffers.same()
 }
 
 fn read(ask: &Ask, lent: &[u8], own: &[u8], buffers: &mut Buffers) -> Answers {

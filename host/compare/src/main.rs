@@ -28,6 +28,7 @@ fn main() -> ExitCode {
         }
     });
     println!("{}", run.tally);
+    println!("{} calls also with bit 0 the other way", run.either_way);
     let disagreements = run.disagreements.len();
     let seconds = start.elapsed().as_secs_f64();
     println!(

@@ -1,6 +1,6 @@
 //! The seeded loop.
 
-use crate::ask::{ask, Answers, Ask, Buffers, Call};
+use crate::ask::{alike_either_way, ask, Answers, Ask, Buffers, Call};
 use crate::subject::{subjects, widest_image, Subject};
 use crate::tally::Tally;
 use model::random::Random;
@@ -16,6 +16,8 @@ pub struct Disagreement {
 pub struct Run {
     pub seed: u64,
     pub calls: u64,
+    /// Of these, those that were put to the proved library with bit 0 the other way too.
+    pub either_way: u64,
     pub tally: Tally,
     pub disagreements: Vec<Disagreement>,
     buffers: Buffers,
@@ -29,6 +31,7 @@ impl Run {
         Self {
             seed,
             calls: 0,
+            either_way: 0,
             tally: Tally::default(),
             disagreements: Vec::new(),
             buffers: Buffers::default(),
@@ -59,12 +62,21 @@ impl Run {
             let answers = ask(&question, &lent, &subject.bytes, &mut self.buffers);
             self.calls += 1;
             self.tally.add(question.call, &answers);
-            let fault = fault(&answers, self.buffers.same(), lent == subject.bytes);
+            let mut fault = fault(&answers, self.buffers.same(), lent == subject.bytes);
+            if fault.is_none() && question.call.seeks_block() && random.one_in(3) {
+                fault = self.bit_0_fault(&question, &lent);
+            }
             if let Some(fault) = fault {
                 self.report(seed, subject, &question, &answers, fault);
                 return;
             }
         }
+    }
+
+    fn bit_0_fault(&mut self, question: &Ask, lent: &[u8]) -> Option<&'static str> {
+        self.either_way += 1;
+        let alike = alike_either_way(question, lent, &mut self.buffers);
+        (!alike).then_some("bit 0 makes a difference")
     }
 
     fn report(&mut self, seed: u64, subject: &Subject, ask: &Ask, answers: &Answers, fault: &str) {
@@ -138,8 +150,16 @@ fn number_for(call: Call, subject: &Subject, random: &mut Random) -> u64 {
         4 => random.number(),
         5 => random.below(10_000) as u64,
         6 => known ^ 1 << random.below(64),
+        7..=9 if call.seeks_block() => known ^ 1,
+        7..=9 if call == Call::NextBlock => near_key(known, random),
         _ => known,
     }
+}
+
+/// A listed number's key, or a number next to that key.
+fn near_key(listed: u64, random: &mut Random) -> u64 {
+    let key = listed & !1;
+    random.one_of([key, key | 1, key.wrapping_add(2), key.wrapping_sub(1)])
 }
 
 /// None, one short, exact, one over, or some over what the call needs.

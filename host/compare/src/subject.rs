@@ -4,7 +4,7 @@
 use crate::ask::{Call, ON_BYTES, ON_HEAP, ON_IMAGE};
 use model::build::heaps::{bare_heap, empty_items, property_context, HeapPlan, PlacedHeap};
 use model::build::seal::seal_header;
-use model::build::{build, build_small, Built, Plan, MOST_SMALL};
+use model::build::{build, build_small, build_small_loose, Built, Plan, MOST_SMALL};
 use model::damage::heap::{spoil_heap, ALL};
 use model::damage::{spoil, spoil_again, Damage, BLOCK, HEADER, PAGE, WHOLE};
 use model::random::Random;
@@ -52,7 +52,12 @@ pub fn subjects(seed: u64) -> Vec<Subject> {
 }
 
 fn built_images(random: &mut Random) -> Vec<Subject> {
-    let built = build_small(random.number());
+    let seed = random.number();
+    let built = if random.one_in(2) {
+        build_small_loose(seed)
+    } else {
+        build_small(seed)
+    };
     let whole = Subject {
         nodes: built.node_numbers(),
         blocks: built.block_numbers(),
@@ -126,6 +131,7 @@ pub fn widest_image(seed: u64) -> Subject {
         most_size: 8176,
         most_children: 1021,
         one_child: true,
+        loose_bit_0: seed > 0,
         ..Plan::default()
     };
     let built = build(seed, &plan);

@@ -9,6 +9,7 @@ fn differential() {
     let mut run = Run::new(1);
     run.make(200_000, |_| {});
     println!("{}", run.tally);
+    println!("{} calls also with bit 0 the other way", run.either_way);
     println!(
         "{} calls, {} disagreements",
         run.calls,
@@ -18,6 +19,7 @@ fn differential() {
         run.disagreements.is_empty(),
         "the proved library and the model disagree"
     );
+    assert!(run.either_way > 10_000);
     for number in 1..=MOST_REFUSAL {
         assert!(
             run.tally.refusals(number) > 0,

@@ -34,6 +34,8 @@ pub fn find_block(image: &[u8], block: u64) -> Answer<Lookup<Block>> {
     find(image, &header, block)
 }
 
+/// The first block whose number, without bit 0, is at least `from` as given: one above the number
+/// found moves on.
 pub fn next_block(image: &[u8], from: u64) -> Answer<Lookup<Block>> {
     let header = header(image)?;
     Ok(tree::next(image, &header, Tree::Blocks, from)?.map(listed))
@@ -110,8 +112,9 @@ fn room_in<'a>(image: &'a [u8], listed: &Block) -> Option<&'a [u8]> {
     }
 }
 
+/// The signature is that of the number as listed; the number itself is compared without bit 0.
 fn is_trailer_of(trailer: &[u8], listed: &Block) -> bool {
     u16_at(trailer, 0) == listed.size
         && u16_at(trailer, 2) == signature(listed.offset, listed.block)
-        && u64_at(trailer, 8) == listed.block
+        && Tree::Blocks.key(u64_at(trailer, 8)) == Tree::Blocks.key(listed.block)
 }

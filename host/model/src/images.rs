@@ -1,5 +1,7 @@
-//! A choice of small images, the same each time: valid ones of each method and depth, and damaged
-//! ones that together reach every refusal.
+//! A choice of small images, the same each time: some of each method and depth, damaged ones that
+//! together reach every refusal, and those that turn on bit 0 of a block's number.
+
+mod bit_0;
 
 use crate::build::heaps::PlacedHeap;
 use crate::build::seal::seal_block;
@@ -29,53 +31,58 @@ pub struct Image {
 const BUFFER: usize = 65_536;
 const MOST_ASKED: usize = 6;
 
-/// Refusal, kind of damage, sealed.
-const DAMAGED: &[(u64, Damage, bool)] = &[
-    (2, Damage::Magic, true),
-    (2, Damage::ClientMagic, true),
-    (3, Damage::Version, true),
-    (4, Damage::PartialSum, false),
-    (4, Damage::FullSum, false),
-    (5, Damage::Sentinel, true),
-    (5, Damage::Method, true),
-    (6, Damage::RootOffset, true),
-    (6, Damage::ChildOffset, true),
-    (7, Damage::PageKind, true),
-    (8, Damage::PageNumber, true),
-    (8, Damage::PageSignature, true),
-    (9, Damage::PageByte, false),
-    (10, Damage::PageCount, true),
-    (10, Damage::PageLevel, true),
-    (11, Damage::KeyEqual, true),
-    (11, Damage::KeyLow, true),
-    (12, Damage::TreeChild, true),
-    (13, Damage::ListedSize, true),
-    (14, Damage::TrailerNumber, true),
-    (15, Damage::BlockByte, false),
-    (16, Damage::TreeSum, true),
-    (16, Damage::TreeCount, true),
+/// The image of that depth in which two keys of an index page are equal without bit 0.
+const TWIN_KEYS: &str = "permute-level-2";
+
+/// Refusal, kind of damage, sealed, and a seed by which the one leads to the other. The child that 12
+/// stands for is listed with bit 0 the other way, so that it is read all the same.
+const DAMAGED: &[(u64, Damage, bool, u64)] = &[
+    (2, Damage::Magic, true, 0),
+    (2, Damage::ClientMagic, true, 0),
+    (3, Damage::Version, true, 0),
+    (4, Damage::PartialSum, false, 0),
+    (4, Damage::FullSum, false, 0),
+    (5, Damage::Sentinel, true, 0),
+    (5, Damage::Method, true, 0),
+    (6, Damage::RootOffset, true, 0),
+    (6, Damage::ChildOffset, true, 0),
+    (7, Damage::PageKind, true, 0),
+    (8, Damage::PageNumber, true, 0),
+    (8, Damage::PageSignature, true, 0),
+    (9, Damage::PageByte, false, 0),
+    (10, Damage::PageCount, true, 0),
+    (10, Damage::PageLevel, true, 0),
+    (11, Damage::KeyEqual, true, 0),
+    (11, Damage::KeyLow, true, 0),
+    (12, Damage::TreeChild, true, 1),
+    (13, Damage::ListedSize, true, 2),
+    (14, Damage::TrailerNumber, true, 0),
+    (15, Damage::BlockByte, false, 0),
+    (16, Damage::TreeSum, true, 0),
+    (16, Damage::TreeCount, true, 0),
 ];
 
-const DAMAGED_HEAPS: &[(u64, HeapDamage)] = &[
-    (18, HeapDamage::ItemOffset),
-    (19, HeapDamage::RecordValue),
-    (20, HeapDamage::RecordKey),
+const DAMAGED_HEAPS: &[(u64, HeapDamage, u64)] = &[
+    (18, HeapDamage::ItemOffset, 1),
+    (19, HeapDamage::RecordValue, 1),
+    (20, HeapDamage::RecordKey, 16),
 ];
 
 pub fn images() -> Vec<Image> {
-    let mut images = valid();
+    let mut images = shapes();
     images.push(short_image());
     images.extend(
         DAMAGED
             .iter()
-            .map(|&(number, damage, sealed)| damaged(number, damage, sealed)),
+            .map(|&(number, damage, sealed, seed)| damaged(number, damage, sealed, seed)),
     );
     images.push(short_buffer());
     images.extend(
         DAMAGED_HEAPS
             .iter()
-            .map(|&(number, damage)| damaged_heap(number, damage)),
+            .map(|&(number, damage, seed)| damaged_heap(number, damage, seed)),
     );
+    images.extend(bit_0::images());
     images
 }
 
@@ -97,7 +104,7 @@ fn base(method: u8, level: u8, index_levels: u8) -> Plan {
     }
 }
 
-fn valid() -> Vec<Image> {
+fn shapes() -> Vec<Image> {
     let shapes = [
         ("none-level-0", NONE, 0, 0),
         ("permute-level-0", PERMUTE, 0, 1),
@@ -112,7 +119,12 @@ fn valid() -> Vec<Image> {
     let mut images = vec![image_of("empty", empty.image.clone(), &empty)];
     for (name, method, level, index_levels) in shapes {
         let built = build(u64::from(level) + 2, &base(method, level, index_levels));
-        images.push(image_of(name, built.image.clone(), &built));
+        let bytes = if name == TWIN_KEYS {
+            spoil(&built, Damage::KeyTwin, true, &mut Random::new(0)).image
+        } else {
+            built.image.clone()
+        };
+        images.push(image_of(name, bytes, &built));
     }
     images
 }
@@ -152,23 +164,17 @@ fn asked(known: &[u64], first: &[u64]) -> Vec<u64> {
     asked
 }
 
-/// The first seed by which the damage leads to the refusal.
-fn damaged(number: u64, damage: Damage, sealed: bool) -> Image {
+fn damaged(number: u64, damage: Damage, sealed: bool, seed: u64) -> Image {
     let built = build(number, &base((number % 3) as u8, 1, 0));
     let name = format!("refusal-{number}-{damage:?}").to_lowercase();
-    let nodes = built.node_numbers();
-    let blocks = built.block_numbers();
-    let tries = (0..).map(|seed| {
-        let mut spoilt = spoil(&built, damage, sealed, &mut Random::new(seed));
-        if number <= 5 {
-            spoilt.image.truncate(LEAST_IMAGE);
-        }
-        let mut image = image_of(&name, spoilt.image, &built);
-        image.nodes = asked(&nodes, &spoilt.nodes);
-        image.blocks = asked(&blocks, &spoilt.blocks);
-        image
-    });
-    first_refusing(tries, number)
+    let mut spoilt = spoil(&built, damage, sealed, &mut Random::new(seed));
+    if number <= 5 {
+        spoilt.image.truncate(LEAST_IMAGE);
+    }
+    let mut image = image_of(&name, spoilt.image, &built);
+    image.nodes = asked(&built.node_numbers(), &spoilt.nodes);
+    image.blocks = asked(&built.block_numbers(), &spoilt.blocks);
+    image
 }
 
 fn short_image() -> Image {
@@ -189,17 +195,15 @@ fn short_buffer() -> Image {
 }
 
 /// An image whose property context is spoilt, and its block sealed again.
-fn damaged_heap(number: u64, damage: HeapDamage) -> Image {
+fn damaged_heap(number: u64, damage: HeapDamage, seed: u64) -> Image {
     let built = build(number, &base((number % 3) as u8, 0, 1));
     let name = format!("refusal-{number}-{damage:?}").to_lowercase();
-    let tries = (0..).filter_map(|seed| {
-        let (&node, heap) = built.heaps.first_key_value()?;
-        let bytes = with_heap(&built, node, heap, damage, seed)?;
-        let mut image = image_of(&name, bytes, &built);
-        image.nodes = asked(&image.nodes, &[u64::from(node)]);
-        Some(image)
-    });
-    first_refusing(tries, number)
+    let heaps = built.heaps.first_key_value();
+    let (&node, heap) = heaps.expect("a property context");
+    let bytes = with_heap(&built, node, heap, damage, seed).expect("its block");
+    let mut image = image_of(&name, bytes, &built);
+    image.nodes = asked(&image.nodes, &[u64::from(node)]);
+    image
 }
 
 fn with_heap(
@@ -217,12 +221,6 @@ fn with_heap(
     put(&mut image, block.offset, &spoilt);
     seal_block(&mut image, block.offset, block.size, block.number);
     Some(image)
-}
-
-fn first_refusing(mut tries: impl Iterator<Item = Image>, number: u64) -> Image {
-    tries
-        .find(|image| refusals(image).contains(&number))
-        .expect("some seed leads to the refusal")
 }
 
 /// The refusals that the calls on an image give when asked what is worth asking.

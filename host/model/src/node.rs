@@ -25,6 +25,7 @@ pub fn find_node(image: &[u8], node: u64) -> Answer<Lookup<Node>> {
 
 pub fn next_node(image: &[u8], from: u64) -> Answer<Lookup<Node>> {
     let header = header(image)?;
+    let from = Tree::Nodes.key(from);
     Ok(tree::next(image, &header, Tree::Nodes, from)?.map(listed))
 }
 
@@ -35,7 +36,8 @@ pub fn read_node(image: &[u8], node: u64, out: &mut [u8]) -> Answer<Option<usize
         return Ok(None);
     };
     let data = listed(entry).data;
-    if data == 0 {
+    // With or without bit 0, it names no block.
+    if matches!(data, 0 | 1) {
         return Ok(Some(0));
     }
     let blocks = data_blocks(image, &header, data)?;

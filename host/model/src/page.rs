@@ -24,11 +24,12 @@ impl Tree {
         }
     }
 
-    /// The part of a key that counts: of a node's, the low four bytes.
-    pub fn key(self, stored: u64) -> u64 {
+    /// The part of a number that is compared: of a node's the low four bytes, of a block's all but
+    /// bit 0, which counts as zero.
+    pub fn key(self, number: u64) -> u64 {
         match self {
-            Tree::Nodes => stored & 0xFFFF_FFFF,
-            Tree::Blocks => stored,
+            Tree::Nodes => number & 0xFFFF_FFFF,
+            Tree::Blocks => number & !1,
         }
     }
 

@@ -92,7 +92,7 @@ pub(crate) fn find<'a>(
     }
 }
 
-/// The first leaf entry whose key is at least `from`.
+/// The first leaf entry whose key is at least `from`, which is compared with the keys as it stands.
 pub(crate) fn next<'a>(
     image: &'a [u8],
     header: &Header,
@@ -100,13 +100,7 @@ pub(crate) fn next<'a>(
     from: u64,
 ) -> Answer<Lookup<&'a [u8]>> {
     let mut pages = 0;
-    let entry = next_under(
-        image,
-        tree,
-        root_of(header, tree),
-        tree.key(from),
-        &mut pages,
-    )?;
+    let entry = next_under(image, tree, root_of(header, tree), from, &mut pages)?;
     Ok(match entry {
         Some(entry) => Lookup::Found { pages, entry },
         None => Lookup::Absent { pages },

@@ -1,7 +1,9 @@
 //! Every built image is accepted, and everything placed in it is read back.
 
 use model::build::heaps::{property_context, HeapPlan, PlacedHeap};
-use model::build::{build, build_small, Built, Plan, MOST_SMALL};
+use model::build::seal::trailer_at;
+use model::build::{build, build_small, build_small_loose, without_bit_0, Built, Plan, MOST_SMALL};
+use model::page::Tree;
 use model::random::Random;
 use model::{Block, Lookup, Refusal};
 use std::collections::BTreeSet;
@@ -107,6 +109,69 @@ fn small_images() {
         assert_read_back(&built);
         assert_listing(&built);
         assert_eq!(built.image, build_small(seed).image);
+    }
+}
+
+/// Where the number of a placed block stands, and there differs from the listed one in bit 0.
+fn other_bits(built: &Built) -> [usize; 4] {
+    let differs = |number: &u64| {
+        let listed = built.block(*number).expect("it is listed").number;
+        listed != *number
+    };
+    let named = built.nodes.iter().map(|node| node.data);
+    let in_trailers = built.blocks.iter().map(|block| {
+        let trailer = trailer_at(block.offset, block.size);
+        u64::from_le_bytes(built.image[trailer + 8..trailer + 16].try_into().unwrap())
+    });
+    let index_pages = built
+        .pages
+        .iter()
+        .filter(|page| page.tree == Tree::Blocks && page.level > 0);
+    let index_keys = index_pages.flat_map(|page| &page.keys);
+    [
+        named.filter(|&data| data > 1).filter(differs).count(),
+        built
+            .trees
+            .values()
+            .flatten()
+            .copied()
+            .filter(differs)
+            .count(),
+        in_trailers.filter(differs).count(),
+        index_keys
+            .filter(|&&key| built.block(key).is_some_and(|block| block.number != key))
+            .count(),
+    ]
+}
+
+#[test]
+fn loose_images() {
+    let mut seen = [0; 4];
+    let mut ones = 0;
+    for seed in 0..300 {
+        let built = build_small_loose(seed);
+        assert!(built.image.len() <= MOST_SMALL);
+        assert_read_back(&built);
+        assert_listing(&built);
+        for (seen, more) in seen.iter_mut().zip(other_bits(&built)) {
+            *seen += more;
+        }
+        ones += built.nodes.iter().filter(|node| node.data == 1).count();
+        assert_eq!(other_bits(&build_small(seed)), [0; 4]);
+    }
+    assert!(seen.iter().all(|&seen| seen > 100), "{seen:?}");
+    assert!(ones > 100, "{ones}");
+}
+
+/// No two listed numbers are equal without bit 0, whatever is drawn.
+#[test]
+fn blocks_apart() {
+    for seed in 0..300 {
+        for built in [build_small(seed), build_small_loose(seed)] {
+            let numbers = built.block_numbers().into_iter();
+            let apart: BTreeSet<_> = numbers.map(without_bit_0).collect();
+            assert_eq!(apart.len(), built.blocks.len(), "seed {seed}");
+        }
     }
 }
 

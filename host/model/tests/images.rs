@@ -16,6 +16,23 @@ fn every_refusal() {
     assert_eq!(names.len(), images.len());
 }
 
+/// Its child differs from a listed number in bit 0 alone.
+const READ_ALL_THE_SAME: &str = "refusal-12-treechild";
+
+/// An image named for a refusal leads to it.
+#[test]
+fn refusals_by_name() {
+    for image in images() {
+        let Some(rest) = image.name.strip_prefix("refusal-") else {
+            continue;
+        };
+        let (number, _) = rest.split_once('-').expect("a number and a word");
+        let number = number.parse().expect("a number");
+        let refused = refusals(&image).contains(&number);
+        assert_eq!(refused, image.name != READ_ALL_THE_SAME, "{}", image.name);
+    }
+}
+
 #[test]
 fn the_same_each_time() {
     let bytes = |images: Vec<model::images::Image>| {

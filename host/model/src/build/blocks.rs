@@ -1,9 +1,9 @@
 //! Blocks and data trees.
 
 use super::pages::Entry;
-use super::seal::seal_block;
+use super::seal::{seal_block, trailer_at};
 use super::space::Space;
-use super::PlacedBlock;
+use super::{without_bit_0, PlacedBlock};
 use crate::block::{is_internal, room};
 use crate::bytes::put;
 use crate::coding::encode;
@@ -12,6 +12,7 @@ use std::collections::BTreeSet;
 pub struct Blocks {
     pub method: u8,
     pub placed: Vec<PlacedBlock>,
+    /// Their numbers without bit 0.
     taken: BTreeSet<u64>,
 }
 
@@ -24,9 +25,14 @@ impl Blocks {
         }
     }
 
-    /// Puts a block of 1 to 8,176 bytes into the image and answers its number.
+    /// Puts a block of 1 to 8,176 bytes into the image and answers the number that is listed.
     pub fn place(&mut self, space: &mut Space, data: Vec<u8>, internal: bool) -> u64 {
         let number = self.number(space, internal);
+        self.place_as(space, number, data);
+        number
+    }
+
+    pub fn place_as(&mut self, space: &mut Space, number: u64, data: Vec<u8>) {
         let size = data.len() as u16;
         let offset = space.take(room(u32::from(size)) as usize);
         let mut stored = data.clone();
@@ -35,6 +41,8 @@ impl Blocks {
         }
         put(&mut space.bytes, offset, &stored);
         seal_block(&mut space.bytes, offset, size, number);
+        let in_trailer = space.loosen(number).to_le_bytes();
+        put(&mut space.bytes, trailer_at(offset, size) + 8, &in_trailer);
         let references = if space.tidy {
             2
         } else {
@@ -47,16 +55,11 @@ impl Blocks {
             references,
             data,
         });
-        number
     }
 
     /// Puts a data tree over those blocks into the image and answers its number.
     pub fn place_tree(&mut self, space: &mut Space, children: &[u64], sum: u32) -> u64 {
-        let mut data = vec![1, 1];
-        data.extend_from_slice(&(children.len() as u16).to_le_bytes());
-        data.extend_from_slice(&sum.to_le_bytes());
-        data.extend(children.iter().flat_map(|child| child.to_le_bytes()));
-        self.place(space, data, true)
+        self.place(space, tree_bytes(children, sum), true)
     }
 
     fn number(&mut self, space: &mut Space, internal: bool) -> u64 {
@@ -66,9 +69,9 @@ impl Blocks {
                 1 if !space.tidy => space.random.number() & 0xFFFD,
                 _ => 4 * (self.taken.len() as u64 + 1),
             } | if internal { 2 } else { 0 };
-            // Node data takes a data block of 0 for none.
-            if number != 0 && self.taken.insert(number) {
-                return number;
+            // Node data takes a data block of 0 or 1 for none.
+            if number > 1 && self.taken.insert(without_bit_0(number)) {
+                return space.loosen(number);
             }
         }
     }
@@ -83,6 +86,14 @@ impl Blocks {
         entries.sort_by_key(|entry| entry.key);
         entries
     }
+}
+
+pub fn tree_bytes(children: &[u64], sum: u32) -> Vec<u8> {
+    let mut bytes = vec![1, 1];
+    bytes.extend_from_slice(&(children.len() as u16).to_le_bytes());
+    bytes.extend_from_slice(&sum.to_le_bytes());
+    bytes.extend(children.iter().flat_map(|child| child.to_le_bytes()));
+    bytes
 }
 
 fn entry(block: &PlacedBlock, space: &mut Space) -> Entry {

@@ -1,6 +1,7 @@
 //! A builder of valid images, the same for the same seed and plan. It answers the image along with
 //! what was placed in it.
 
+pub mod bit_0;
 mod blocks;
 pub mod heaps;
 pub mod office;
@@ -52,6 +53,14 @@ pub struct Plan {
     pub spare_blocks: usize,
     /// Full pages, ascending numbers, no gaps and no stale bytes.
     pub tidy: bool,
+    /// Bit 0 of a block's number is drawn in each place anew: in its listing, its trailer, the nodes
+    /// and data trees that name it, and the index pages above it.
+    pub loose_bit_0: bool,
+}
+
+/// What tells blocks apart.
+pub fn without_bit_0(number: u64) -> u64 {
+    number & !1
 }
 
 #[derive(Clone, Debug)]
@@ -60,11 +69,13 @@ pub struct PlacedPage {
     pub offset: usize,
     pub level: u8,
     pub is_root: bool,
+    /// As stored; of nodes the low four bytes.
     pub keys: Vec<u64>,
 }
 
 #[derive(Clone, Debug)]
 pub struct PlacedBlock {
+    /// As listed.
     pub number: u64,
     pub offset: usize,
     pub size: u16,
@@ -81,7 +92,7 @@ pub struct Built {
     pub nodes: Vec<Node>,
     pub blocks: Vec<PlacedBlock>,
     pub pages: Vec<PlacedPage>,
-    /// The children of each data tree, by its block number.
+    /// The children of each data tree as it names them, by its listed number.
     pub trees: BTreeMap<u64, Vec<u64>>,
     /// The property contexts, by node number.
     pub heaps: BTreeMap<u32, PlacedHeap>,
@@ -97,14 +108,19 @@ impl Built {
     }
 
     pub fn block(&self, number: u64) -> Option<&PlacedBlock> {
-        self.blocks.iter().find(|block| block.number == number)
+        let sought = without_bit_0(number);
+        let mut blocks = self.blocks.iter();
+        blocks.find(|block| without_bit_0(block.number) == sought)
     }
 
-    /// The blocks whose bytes are the data of a node.
+    /// The blocks whose bytes are the data of a node, by the numbers that name them.
     pub fn parts(&self, node: &Node) -> Vec<u64> {
-        match self.trees.get(&node.data) {
+        if without_bit_0(node.data) == 0 {
+            return Vec::new();
+        }
+        let listed = self.block(node.data).map(|block| block.number);
+        match listed.and_then(|number| self.trees.get(&number)) {
             Some(children) => children.clone(),
-            None if node.data == 0 => Vec::new(),
             None => vec![node.data],
         }
     }
@@ -124,9 +140,23 @@ pub fn build(seed: u64, plan: &Plan) -> Built {
 
 /// A seeded image of at most 65,536 bytes; shapes of all kinds come up over the seeds.
 pub fn build_small(seed: u64) -> Built {
+    small(seed, false)
+}
+
+/// Such an image with bit 0 loose.
+pub fn build_small_loose(seed: u64) -> Built {
+    small(seed, true)
+}
+
+fn small(seed: u64, loose_bit_0: bool) -> Built {
     let mut random = Random::new(seed);
     loop {
-        let built = build(random.number(), &small_plan(&mut random));
+        let seed = random.number();
+        let plan = Plan {
+            loose_bit_0,
+            ..small_plan(&mut random)
+        };
+        let built = build(seed, &plan);
         if built.image.len() <= MOST_SMALL {
             return built;
         }
@@ -148,14 +178,14 @@ fn small_plan(random: &mut Random) -> Plan {
         index_levels: random.below(4) as u8,
         most_size: random.one_of([1, 49, 200, 200, 1200, MOST_SIZE]),
         most_children: random.one_of([1, 3, 3, 8]),
-        one_child: false,
         spare_blocks: random.below(most),
         tidy: random.one_in(6),
+        ..Plan::default()
     }
 }
 
-struct Builder<'a> {
-    plan: &'a Plan,
+struct Builder {
+    plan: Plan,
     space: Space,
     blocks: Blocks,
     nodes: BTreeMap<u32, Node>,
@@ -163,11 +193,11 @@ struct Builder<'a> {
     heaps: BTreeMap<u32, PlacedHeap>,
 }
 
-impl<'a> Builder<'a> {
-    fn new(seed: u64, plan: &'a Plan) -> Self {
+impl Builder {
+    fn new(seed: u64, plan: &Plan) -> Self {
         Self {
-            plan,
-            space: Space::new(seed, plan.tidy),
+            plan: *plan,
+            space: Space::new(seed, plan),
             blocks: Blocks::new(plan.method),
             nodes: BTreeMap::new(),
             trees: BTreeMap::new(),
@@ -214,7 +244,7 @@ impl<'a> Builder<'a> {
         let most = self.plan.most_children.clamp(1, MOST_CHILDREN);
         let Plan {
             tidy, one_child, ..
-        } = *self.plan;
+        } = self.plan;
         let count = if tidy || one_child {
             most
         } else {
@@ -234,6 +264,9 @@ impl<'a> Builder<'a> {
     }
 
     fn place_tree_over(&mut self, children: Vec<u64>, sum: u32) -> u64 {
+        let space = &mut self.space;
+        let named = children.into_iter().map(|child| space.loosen(child));
+        let children: Vec<_> = named.collect();
         let number = self.blocks.place_tree(&mut self.space, &children, sum);
         self.trees.insert(number, children);
         number
@@ -258,6 +291,7 @@ impl<'a> Builder<'a> {
 
     /// Lists a node of a number not yet taken.
     fn place_node(&mut self, data: u64) -> u32 {
+        let data = self.space.loosen(data);
         let tidy = self.plan.tidy;
         let random = &mut self.space.random;
         let node = loop {
@@ -323,7 +357,7 @@ impl<'a> Builder<'a> {
         let level = if entries.is_empty() { 0 } else { level };
         let level = level.max(least_level(tree, entries.len()));
         let space = &mut self.space;
-        let root = Grower { space, tree, pages }.grow(entries, level, 0);
+        let root = Grower { space, tree, pages }.grow(entries, level, 0, None);
         if let Some(page) = pages.last_mut() {
             page.is_root = true;
         }

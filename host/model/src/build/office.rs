@@ -90,7 +90,7 @@ pub fn office() -> Built {
     builder.finish()
 }
 
-impl Builder<'_> {
+impl Builder {
     fn place_context(&mut self, node: u32, parent: u32, given: Vec<(u16, u16, Given)>) {
         let heap = given_properties(&mut self.space.random, given);
         let data = self.place_data(heap.block.clone());

@@ -2,12 +2,12 @@
 
 use super::seal::seal_page;
 use super::space::Space;
-use super::PlacedPage;
+use super::{without_bit_0, PlacedPage};
 use crate::bytes::put;
 use crate::header::Reference;
 use crate::page::{Tree, MOST_LEVEL, PAGE};
 
-/// A leaf or index entry; the key is the part of it that counts.
+/// A leaf or index entry, and its key as stored; of a node the low four bytes.
 #[derive(Clone, Debug)]
 pub struct Entry {
     pub key: u64,
@@ -33,20 +33,27 @@ fn capacity(tree: Tree, level: u8) -> usize {
 
 impl Grower<'_> {
     /// Writes the pages over the entries, children before their parent. `low` is where the page's
-    /// range begins.
-    pub fn grow(&mut self, entries: &[Entry], level: u8, low: u64) -> Reference {
+    /// range begins, `before` the last leaf key to the left of the page.
+    pub fn grow(
+        &mut self,
+        entries: &[Entry],
+        level: u8,
+        low: u64,
+        before: Option<u64>,
+    ) -> Reference {
         if level == 0 {
             return self.write(entries, level);
         }
         let parts = self.split(entries.len(), capacity(self.tree, level - 1));
-        let (mut rest, mut low) = (entries, low);
+        let (mut rest, mut low, mut before) = (entries, low, before);
         let mut index = Vec::new();
         for part in parts {
             let (own, behind) = rest.split_at(part);
             let key = self.key_between(low, own[0].key);
-            let child = self.grow(own, level - 1, key);
-            index.push(index_entry(self.stored_key(key), key, child));
-            low = own[own.len() - 1].key.saturating_add(1);
+            let child = self.grow(own, level - 1, key, before);
+            index.push(self.index_entry(key, before, child));
+            let last = own[own.len() - 1].key;
+            (low, before) = (last.saturating_add(1), Some(last));
             rest = behind;
         }
         self.write(&index, level)
@@ -88,12 +95,22 @@ impl Grower<'_> {
         }
     }
 
-    fn stored_key(&mut self, key: u64) -> u64 {
-        match self.tree {
-            Tree::Nodes if !self.space.tidy && self.space.random.one_in(4) => {
-                key | (self.space.random.number() << 32)
+    fn index_entry(&mut self, key: u64, before: Option<u64>, child: Reference) -> Entry {
+        let (key, stored) = match self.tree {
+            Tree::Blocks => {
+                let key = self.space.loosen(apart(key, before));
+                (key, key)
             }
-            _ => key,
+            Tree::Nodes if !self.space.tidy && self.space.random.one_in(4) => {
+                (key, key | (self.space.random.number() << 32))
+            }
+            Tree::Nodes => (key, key),
+        };
+        let fields = [stored, child.number, child.offset];
+        let bytes = fields.iter().flat_map(|field| field.to_le_bytes());
+        Entry {
+            key,
+            bytes: bytes.collect(),
         }
     }
 
@@ -141,13 +158,8 @@ impl Grower<'_> {
     }
 }
 
-fn index_entry(stored_key: u64, key: u64, child: Reference) -> Entry {
-    let fields = [stored_key, child.number, child.offset];
-    Entry {
-        key,
-        bytes: fields
-            .iter()
-            .flat_map(|field| field.to_le_bytes())
-            .collect(),
-    }
+/// A key of the BBT that is not the one before it, whatever bit 0 is.
+fn apart(key: u64, before: Option<u64>) -> u64 {
+    let equal = before.is_some_and(|before| without_bit_0(before) == without_bit_0(key));
+    key + u64::from(equal)
 }

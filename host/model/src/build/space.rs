@@ -1,5 +1,6 @@
 //! The growing image.
 
+use super::Plan;
 use crate::page::FIRST_OFFSET;
 use crate::random::Random;
 
@@ -8,14 +9,16 @@ pub struct Space {
     pub random: Random,
     /// No gaps, no stale bytes, plain numbers.
     pub tidy: bool,
+    loose_bit_0: bool,
 }
 
 impl Space {
-    pub fn new(seed: u64, tidy: bool) -> Self {
+    pub fn new(seed: u64, plan: &Plan) -> Self {
         let mut space = Self {
             bytes: Vec::new(),
             random: Random::new(seed),
-            tidy,
+            tidy: plan.tidy,
+            loose_bit_0: plan.loose_bit_0,
         };
         let head = space.fresh(FIRST_OFFSET as usize);
         space.bytes.extend_from_slice(&head);
@@ -28,6 +31,15 @@ impl Space {
             vec![0; length]
         } else {
             self.random.bytes(length)
+        }
+    }
+
+    /// A block's number as one place has it: where bit 0 is loose, it is drawn for that place.
+    pub fn loosen(&mut self, number: u64) -> u64 {
+        if self.loose_bit_0 && self.random.one_in(2) {
+            number ^ 1
+        } else {
+            number
         }
     }
 

@@ -1,10 +1,12 @@
 //! Damage to a block, to its listing in the BBT, or to a data tree.
 
 use super::{Damage, Spoiler};
-use crate::block::room;
+use crate::block::{is_internal, room};
 use crate::build::seal::{seal_block, seal_page, trailer_at};
-use crate::build::PlacedBlock;
+use crate::build::{without_bit_0, PlacedBlock};
 use crate::bytes::{put, u64_at};
+use crate::checksum::signature;
+use crate::coding::encode;
 use crate::page::Tree;
 
 impl<'a> Spoiler<'a> {
@@ -15,6 +17,7 @@ impl<'a> Spoiler<'a> {
         self.look_at_block(block.number);
         match damage {
             Damage::ListedOffset | Damage::ListedSize => self.listed(damage, block),
+            Damage::ListedBit0 => self.listed_bit_0(block),
             Damage::Resize => {
                 let size = self.random.between(1, usize::from(block.size));
                 self.resize(block, size as u16);
@@ -28,22 +31,26 @@ impl<'a> Spoiler<'a> {
             Damage::TrailerSignature => self.trailer(block, 2, 4),
             Damage::TrailerSum => self.trailer(block, 4, 8),
             Damage::TrailerNumber => self.trailer(block, 8, 16),
+            Damage::TrailerBit0 | Damage::TrailerBits => self.trailer_bits(damage, block),
+            Damage::SignatureBit0 => self.signature_bit_0(block),
+            Damage::CodedBit0 => self.coded_bit_0(block),
             _ => self.stored(damage, block),
         }
     }
 
     fn block_for(&mut self, damage: Damage) -> Option<&'a PlacedBlock> {
         let built = self.built;
-        let trees_only = matches!(
-            damage,
+        let fits = |block: &&PlacedBlock| match damage {
             Damage::TreeMark
-                | Damage::TreeLevel
-                | Damage::TreeCount
-                | Damage::TreeSum
-                | Damage::TreeChild
-                | Damage::TreeShort
-        );
-        let fits = |block: &&PlacedBlock| !trees_only || built.trees.contains_key(&block.number);
+            | Damage::TreeLevel
+            | Damage::TreeCount
+            | Damage::TreeSum
+            | Damage::TreeChild
+            | Damage::TreeShort
+            | Damage::TreeBit0 => built.trees.contains_key(&block.number),
+            Damage::CodedBit0 => !is_internal(block.number),
+            _ => true,
+        };
         let blocks: Vec<_> = built.blocks.iter().filter(fits).collect();
         self.random.pick(&blocks).copied()
     }
@@ -52,10 +59,11 @@ impl<'a> Spoiler<'a> {
     fn look_at_block(&mut self, number: u64) {
         self.blocks.push(number);
         let built = self.built;
+        let same = |other: &u64| without_bit_0(*other) == without_bit_0(number);
         let users = built
             .nodes
             .iter()
-            .filter(|node| node.data == number || built.parts(node).contains(&number));
+            .filter(|node| same(&node.data) || built.parts(node).iter().any(same));
         self.nodes.extend(users.map(|node| u64::from(node.node)));
     }
 
@@ -126,6 +134,45 @@ impl<'a> Spoiler<'a> {
         }
     }
 
+    /// The listed number, and where it is sealed the trailer too.
+    fn listed_bit_0(&mut self, block: &PlacedBlock) {
+        let Some((page, entry)) = self.listing(block.number) else {
+            return;
+        };
+        self.image[entry] ^= 1;
+        seal_page(&mut self.image, page);
+        if self.sealed {
+            seal_block(&mut self.image, block.offset, block.size, block.number ^ 1);
+        }
+    }
+
+    /// Bit 0 of the trailer's number, alone or with another bit.
+    fn trailer_bits(&mut self, damage: Damage, block: &PlacedBlock) {
+        let number = trailer_at(block.offset, block.size) + 8;
+        let mut odd = u64_at(&self.image, number) ^ 1;
+        if damage == Damage::TrailerBits {
+            odd ^= 1 << self.random.between(1, 63);
+        }
+        put(&mut self.image, number, &odd.to_le_bytes());
+    }
+
+    /// The signature of the number with bit 0 the other way.
+    fn signature_bit_0(&mut self, block: &PlacedBlock) {
+        let odd = signature(block.offset as u64, block.number ^ 1);
+        let at = trailer_at(block.offset, block.size) + 2;
+        put(&mut self.image, at, &odd.to_le_bytes());
+    }
+
+    /// The bytes encoded under the number with bit 0 the other way.
+    fn coded_bit_0(&mut self, block: &PlacedBlock) {
+        let mut stored = block.data.clone();
+        encode(self.built.method, block.number ^ 1, &mut stored).expect("a method of 0 to 2");
+        put(&mut self.image, block.offset, &stored);
+        if self.sealed {
+            seal_block(&mut self.image, block.offset, block.size, block.number);
+        }
+    }
+
     fn trailer(&mut self, block: &PlacedBlock, start: usize, end: usize) {
         let trailer = trailer_at(block.offset, block.size);
         self.flip(trailer + start, trailer + end);
@@ -148,6 +195,10 @@ impl<'a> Spoiler<'a> {
                 let child = at + 8 + 8 * self.random.below((size - 8) / 8);
                 let odd = self.odd_block(u64_at(&self.image, child));
                 put(&mut self.image, child, &odd.to_le_bytes());
+            }
+            Damage::TreeBit0 => {
+                let child = at + 8 + 8 * self.random.below((size - 8) / 8);
+                self.image[child] ^= 1;
             }
             _ => self.flip(at, at + size),
         }

@@ -28,6 +28,7 @@ impl Spoiler<'_> {
                 put(&mut self.image, root + 8, &odd.to_le_bytes());
             }
             Damage::RootGraft => self.graft(root),
+            Damage::RootBit0 => self.image[root] ^= 1,
             _ => {}
         }
         if self.sealed {

@@ -42,6 +42,7 @@ kinds! {
             RootNumber,
             RootOffset,
             RootGraft,
+            RootBit0,
         ]
         PAGE [
             PageKind,
@@ -62,6 +63,14 @@ kinds! {
             ChildOffset,
             ChildGraft,
             NodeData,
+            KeyTwin,
+            KeyBit0,
+            KeyAtLow,
+            KeyAtEnd,
+            PageBit0,
+            ChildBit0,
+            DataBit0,
+            DataOne,
         ]
         BLOCK [
             ListedOffset,
@@ -79,6 +88,12 @@ kinds! {
             TreeSum,
             TreeChild,
             TreeShort,
+            ListedBit0,
+            TrailerBit0,
+            TrailerBits,
+            SignatureBit0,
+            CodedBit0,
+            TreeBit0,
         ]
     }
 }

@@ -2,7 +2,7 @@
 
 use super::{Damage, Spoiler};
 use crate::build::seal::seal_page;
-use crate::build::PlacedPage;
+use crate::build::{without_bit_0, PlacedPage};
 use crate::bytes::{put, u64_at};
 use crate::page::Tree;
 
@@ -12,7 +12,7 @@ impl<'a> Spoiler<'a> {
             return;
         };
         let offset = page.offset;
-        self.look_at(page);
+        self.look_at(page.tree, &page.keys);
         match damage {
             Damage::PageKind => self.page_kind(offset),
             Damage::PageNumber => self.flip(offset + 504, offset + 512),
@@ -20,11 +20,15 @@ impl<'a> Spoiler<'a> {
             Damage::PageLevel | Damage::EntrySize | Damage::PageRoom | Damage::PageCount => {
                 self.page_counts(damage, offset);
             }
-            Damage::ChildNumber | Damage::ChildOffset | Damage::ChildGraft => {
+            Damage::PageBit0 => self.image[offset + 504] ^= 1,
+            Damage::ChildNumber | Damage::ChildOffset | Damage::ChildGraft | Damage::ChildBit0 => {
                 self.child(damage, page);
             }
-            Damage::NodeData => self.node_data(page),
+            Damage::NodeData | Damage::DataBit0 | Damage::DataOne => self.node_data(damage, page),
             Damage::PageSignature | Damage::PageSum => {}
+            Damage::KeyTwin | Damage::KeyBit0 | Damage::KeyAtLow | Damage::KeyAtEnd => {
+                self.bit_0_of_keys(damage, page);
+            }
             _ => self.keys(damage, page),
         }
         if self.sealed {
@@ -39,10 +43,19 @@ impl<'a> Spoiler<'a> {
 
     fn page_for(&mut self, damage: Damage) -> Option<&'a PlacedPage> {
         let fits = |page: &&PlacedPage| match damage {
-            Damage::ChildNumber | Damage::ChildOffset | Damage::ChildGraft => page.level > 0,
-            Damage::NodeData => page.tree == Tree::Nodes && page.level == 0,
-            Damage::KeyEqual | Damage::KeySwap => page.keys.len() > 1,
-            Damage::KeyLow | Damage::KeyHigh | Damage::KeyUpperHalf => !page.keys.is_empty(),
+            Damage::ChildNumber | Damage::ChildOffset | Damage::ChildGraft | Damage::ChildBit0 => {
+                page.level > 0
+            }
+            Damage::NodeData | Damage::DataBit0 | Damage::DataOne => {
+                page.tree == Tree::Nodes && page.level == 0
+            }
+            Damage::KeyEqual | Damage::KeySwap | Damage::KeyTwin => page.keys.len() > 1,
+            Damage::KeyLow
+            | Damage::KeyHigh
+            | Damage::KeyUpperHalf
+            | Damage::KeyBit0
+            | Damage::KeyAtLow
+            | Damage::KeyAtEnd => !page.keys.is_empty(),
             _ => true,
         };
         let roots_only = self.random.one_in(4);
@@ -57,12 +70,12 @@ impl<'a> Spoiler<'a> {
         self.random.pick(&pages).copied()
     }
 
-    fn look_at(&mut self, page: &PlacedPage) {
-        let seen = match page.tree {
+    fn look_at(&mut self, tree: Tree, keys: &[u64]) {
+        let seen = match tree {
             Tree::Nodes => &mut self.nodes,
             Tree::Blocks => &mut self.blocks,
         };
-        seen.extend_from_slice(&page.keys);
+        seen.extend_from_slice(keys);
     }
 
     fn page_kind(&mut self, offset: usize) {
@@ -125,6 +138,30 @@ impl<'a> Spoiler<'a> {
         }
     }
 
+    /// Keys that are equal, to one another or to an end of the page's range, but for bit 0.
+    fn bit_0_of_keys(&mut self, damage: Damage, page: &'a PlacedPage) {
+        let size = page.tree.entry_size(page.level);
+        let last = page.keys.len() - 1;
+        let (at, key) = match damage {
+            Damage::KeyTwin => {
+                let at = self.random.between(1, last);
+                let key = page.keys[at - 1];
+                let low = without_bit_0(key).to_le_bytes();
+                put(&mut self.image, page.offset + (at - 1) * size, &low);
+                (at, key | 1)
+            }
+            Damage::KeyAtLow => (0, self.low(page) ^ 1),
+            Damage::KeyAtEnd => (last, self.end(page) ^ self.random.below(2) as u64),
+            _ => {
+                let at = self.random.between(0, last);
+                (at, page.keys[at] ^ 1)
+            }
+        };
+        let place = page.offset + at * size;
+        put(&mut self.image, place, &key.to_le_bytes());
+        self.look_at(page.tree, &[key, key ^ 1]);
+    }
+
     /// The keys of the index pages above the page's level.
     fn keys_above(&self, page: &'a PlacedPage) -> impl Iterator<Item = u64> + 'a {
         let pages = self.built.pages.iter();
@@ -134,15 +171,17 @@ impl<'a> Spoiler<'a> {
 
     /// Where the page's range begins.
     fn low(&self, page: &'a PlacedPage) -> u64 {
-        let up_to_first = self.keys_above(page).filter(|&key| key <= page.keys[0]);
+        let first = page.tree.key(page.keys[0]);
+        let keys = self.keys_above(page);
+        let up_to_first = keys.filter(|&key| page.tree.key(key) <= first);
         up_to_first.max().unwrap_or(0)
     }
 
     /// The first key behind the page's range.
     fn end(&self, page: &'a PlacedPage) -> u64 {
-        let behind_last = self
-            .keys_above(page)
-            .filter(|key| page.keys.last() < Some(key));
+        let last = page.tree.key(page.keys[page.keys.len() - 1]);
+        let keys = self.keys_above(page);
+        let behind_last = keys.filter(|&key| last < page.tree.key(key));
         behind_last.min().unwrap_or(u64::MAX)
     }
 
@@ -157,17 +196,23 @@ impl<'a> Spoiler<'a> {
                 let odd = self.odd_offset(u64_at(&self.image, at + 16));
                 put(&mut self.image, at + 16, &odd.to_le_bytes());
             }
+            Damage::ChildBit0 => self.image[at + 8] ^= 1,
             _ => self.graft(at + 8),
         }
     }
 
-    fn node_data(&mut self, page: &PlacedPage) {
+    fn node_data(&mut self, damage: Damage, page: &PlacedPage) {
         if page.keys.is_empty() {
             return;
         }
         let at = self.random.below(page.keys.len());
         let data = page.offset + 32 * at + 8;
-        let odd = self.odd_block(u64_at(&self.image, data));
+        let now = u64_at(&self.image, data);
+        let odd = match damage {
+            Damage::DataBit0 => now ^ 1,
+            Damage::DataOne => 1,
+            _ => self.odd_block(now),
+        };
         put(&mut self.image, data, &odd.to_le_bytes());
         self.nodes.push(page.keys[at]);
     }

@@ -1,0 +1,214 @@
+//! Small images in which a block's number has bit 0 in one place and not in another.
+
+use super::blocks::tree_bytes;
+use super::heaps::{property_context, HeapPlan};
+use super::seal::{seal_block, seal_header, seal_page, trailer_at};
+use super::{without_bit_0, Builder, Built, PlacedPage, Plan};
+use crate::bytes::{put, u64_at};
+use crate::checksum::signature;
+use crate::coding::{encode, CYCLIC, NONE, PERMUTE};
+use crate::node::Node;
+use crate::page::Tree;
+
+const FIRST_NODE: u32 = 0x8022;
+
+/// A node names 0x1519 and the BBT lists 0x1518, a property context. The number two above is named
+/// too and not listed.
+pub fn ticket() -> Built {
+    let mut builder = Builder::new(19, &tidy(PERMUTE));
+    let plan = HeapPlan {
+        index_levels: 1,
+        properties: 6,
+        most_value: 30,
+        tidy: true,
+    };
+    let heap = property_context(&mut builder.space.random, plan);
+    let space = &mut builder.space;
+    builder.blocks.place_as(space, 0x1518, heap.block.clone());
+    builder.heaps.insert(FIRST_NODE, heap);
+    builder.name(&[0x1519, 0x1518, 0x151D]);
+    builder.finish()
+}
+
+/// Two numbers side by side in a leaf that are equal without bit 0, and a leaf before it.
+pub fn twins() -> Built {
+    let mut builder = Builder::new(3, &over_leaves(NONE, 1));
+    builder.fill(&[0x1510, 0x1514, 0x1518, 0x1519]);
+    builder.name(&[0x1510, 0x1518, 0x1519]);
+    builder.finish()
+}
+
+/// Data trees that name children with the bit where it is not listed, and the other way round.
+pub fn data_trees() -> Built {
+    let mut builder = Builder::new(40, &tidy(CYCLIC));
+    builder.fill(&[0x20, 0x24, 0x29, 0x2D]);
+    builder.spread(0x33, &[0x21, 0x25, 0x28, 0x2D, 0x20]);
+    builder.spread(0x36, &[0x2C, 0x29]);
+    builder.name(&[0x32, 0x37]);
+    builder.finish()
+}
+
+/// Blocks that are listed with the bit, one of them internal.
+pub fn listed(method: u8) -> Built {
+    let mut builder = Builder::new(41 + u64::from(method), &tidy(method));
+    builder.fill(&[0x1519]);
+    builder.spread(0x1523, &[0x1519, 0x1518]);
+    builder.name(&[0x1519, 0x1518, 0x1523, 0x1522]);
+    builder.finish()
+}
+
+/// Block 1 is listed: a data tree's child, but no node's data block.
+pub fn data_one() -> Built {
+    let mut builder = Builder::new(44, &tidy(PERMUTE));
+    builder.fill(&[1, 0x10]);
+    builder.spread(0x16, &[1, 0, 0x10]);
+    builder.name(&[0, 1, 0x16, 0x11]);
+    builder.finish()
+}
+
+/// The same, with a BBT that has no sound page.
+pub fn data_one_alone() -> Built {
+    let mut built = data_one();
+    let page = root(&built).offset;
+    built.image[page + 497] = Tree::Nodes.kind();
+    built
+}
+
+/// Index keys and trailers have the bit, leaves have it not.
+pub fn index_keys() -> Built {
+    let mut builder = Builder::new(145, &over_leaves(PERMUTE, 2));
+    builder.fill(&[0x100, 0x104, 0x108, 0x10C, 0x110, 0x114]);
+    builder.name(&[0x100, 0x105, 0x109, 0x110]);
+    let mut built = builder.finish();
+    let of_index = |page: &&mut PlacedPage| page.tree == Tree::Blocks && page.level > 0;
+    for page in built.pages.iter_mut().filter(of_index) {
+        for (at, key) in page.keys.iter_mut().enumerate() {
+            *key |= 1;
+            put(&mut built.image, page.offset + 24 * at, &key.to_le_bytes());
+        }
+        seal_page(&mut built.image, page.offset);
+    }
+    for block in &built.blocks {
+        let trailer = trailer_at(block.offset, block.size);
+        built.image[trailer + 8] |= 1;
+    }
+    built
+}
+
+/// An index key that is equal, without bit 0, to the last key of the leaf before it.
+pub fn range_end() -> Built {
+    let mut builder = Builder::new(3, &over_leaves(CYCLIC, 1));
+    let numbers = [0x100, 0x104, 0x108, 0x10C];
+    builder.fill(&numbers);
+    builder.name(&numbers);
+    let mut built = builder.finish();
+    let page = root(&built).offset;
+    let behind = u64_at(&built.image, page + 24);
+    let below = |number: &&u64| **number < without_bit_0(behind);
+    let last = numbers.iter().rfind(below).expect("a leaf before it");
+    put(&mut built.image, page + 24, &(last | 1).to_le_bytes());
+    seal_page(&mut built.image, page);
+    built
+}
+
+/// Trailers, and bytes, of the number with bit 0 the other way: the first two and the last are
+/// accepted.
+pub fn trailers() -> Built {
+    let mut builder = Builder::new(48, &tidy(CYCLIC));
+    let numbers = [0x40, 0x45, 0x49, 0x4D, 0x51];
+    builder.fill(&numbers);
+    builder.name(&numbers);
+    let mut built = builder.finish();
+    let (image, blocks) = (&mut built.image, &built.blocks);
+    let trailer = |at: usize| trailer_at(blocks[at].offset, blocks[at].size);
+    image[trailer(0) + 8] ^= 1;
+    image[trailer(1) + 8] ^= 1;
+    let signed = signature(blocks[2].offset as u64, blocks[2].number ^ 1);
+    put(image, trailer(2) + 2, &signed.to_le_bytes());
+    image[trailer(3) + 8] ^= 3;
+    let coded = &blocks[4];
+    let mut stored = coded.data.clone();
+    encode(CYCLIC, coded.number ^ 1, &mut stored).expect("a method of 0 to 2");
+    put(image, coded.offset, &stored);
+    seal_block(image, coded.offset, coded.size, coded.number);
+    built
+}
+
+/// The highest numbers there are.
+pub fn highest() -> Built {
+    let mut builder = Builder::new(49, &tidy(CYCLIC));
+    builder.fill(&[u64::MAX - 2]);
+    builder.spread(u64::MAX, &[u64::MAX - 3, u64::MAX - 2]);
+    builder.name(&[u64::MAX - 3, u64::MAX - 1]);
+    builder.finish()
+}
+
+/// The number of the BBT's root page has bit 0 the other way in the header.
+pub fn page_number() -> Built {
+    let mut builder = Builder::new(50, &tidy(NONE));
+    builder.fill(&[4]);
+    builder.name(&[5, 1]);
+    let mut built = builder.finish();
+    built.image[232] ^= 1;
+    seal_header(&mut built.image);
+    built
+}
+
+fn tidy(method: u8) -> Plan {
+    Plan {
+        method,
+        tidy: true,
+        ..Plan::default()
+    }
+}
+
+/// A BBT of that level whose blocks stand in several leaves.
+fn over_leaves(method: u8, block_level: u8) -> Plan {
+    Plan {
+        method,
+        block_level,
+        ..Plan::default()
+    }
+}
+
+fn root(built: &Built) -> &PlacedPage {
+    let is_root = |page: &&PlacedPage| page.tree == Tree::Blocks && page.is_root;
+    built.pages.iter().find(is_root).expect("a root page")
+}
+
+impl Builder {
+    /// Places a block under each number, the first the longest.
+    fn fill(&mut self, numbers: &[u64]) {
+        for (at, &number) in numbers.iter().enumerate() {
+            let data = self.space.random.bytes(300 - 40 * at.min(6));
+            self.blocks.place_as(&mut self.space, number, data);
+        }
+    }
+
+    /// Places a data tree that names those children.
+    fn spread(&mut self, number: u64, children: &[u64]) {
+        let size = |child: u64| {
+            let sought = without_bit_0(child);
+            let mut placed = self.blocks.placed.iter();
+            let block = placed.find(|block| without_bit_0(block.number) == sought);
+            u32::from(block.expect("it is placed").size)
+        };
+        let sum = children.iter().map(|&child| size(child)).sum();
+        let space = &mut self.space;
+        let data = tree_bytes(children, sum);
+        self.blocks.place_as(space, number, data);
+        self.trees.insert(number, children.to_vec());
+    }
+
+    /// Lists a node for each of those data blocks.
+    fn name(&mut self, numbers: &[u64]) {
+        for (node, &data) in (FIRST_NODE..).step_by(0x20).zip(numbers) {
+            self.list_node(Node {
+                node,
+                data,
+                subnode: 0,
+                parent: 0x122,
+            });
+        }
+    }
+}

@@ -1,0 +1,116 @@
+//! What damage to bit 0 of a number leads to.
+
+use model::build::{build_small_loose, Built, PlacedBlock};
+use model::damage::{spoil, Damage, Spoilt};
+use model::random::Random;
+use model::{check_blocks, check_nodes, read_block, read_node, test_block};
+use std::collections::BTreeSet;
+
+/// The damage, sealed, to some built images; those that it leaves as they are do not count.
+fn spoilt(damage: Damage) -> impl Iterator<Item = (Built, Spoilt)> {
+    (0..150).filter_map(move |seed| {
+        let built = build_small_loose(seed);
+        let spoilt = spoil(&built, damage, true, &mut Random::new(seed));
+        (spoilt.image != built.image).then_some((built, spoilt))
+    })
+}
+
+fn number_of<T>(answer: model::Answer<T>) -> u64 {
+    answer.err().map_or(0, |refusal| refusal.number)
+}
+
+/// What the checks of the node tree and of the block tree answer.
+fn checked(damage: Damage) -> BTreeSet<(u64, u64)> {
+    let images = spoilt(damage).map(|(_, spoilt)| spoilt.image);
+    let answers = images.map(|image| {
+        (
+            number_of(check_nodes(&image)),
+            number_of(check_blocks(&image)),
+        )
+    });
+    answers.collect()
+}
+
+/// What the test of the block at fault answers.
+fn tested(damage: Damage) -> BTreeSet<u64> {
+    let answers = spoilt(damage).map(|(_, spoilt)| {
+        let number = spoilt.blocks[0];
+        let answer = number_of(test_block(&spoilt.image, number));
+        assert_eq!(answer, number_of(test_block(&spoilt.image, number ^ 1)));
+        answer
+    });
+    answers.collect()
+}
+
+#[test]
+fn page_numbers() {
+    for damage in [Damage::RootBit0, Damage::PageBit0, Damage::ChildBit0] {
+        assert_eq!(checked(damage), [(0, 8), (8, 0)].into(), "{damage:?}");
+    }
+}
+
+/// What the check of the block tree answers where the damage is in one of its pages.
+fn checked_blocks(damage: Damage) -> BTreeSet<u64> {
+    let in_blocks = spoilt(damage).filter(|(_, spoilt)| !spoilt.blocks.is_empty());
+    let answers = in_blocks.map(|(_, spoilt)| number_of(check_blocks(&spoilt.image)));
+    answers.collect()
+}
+
+#[test]
+fn keys() {
+    assert_eq!(checked_blocks(Damage::KeyTwin), [11].into());
+    assert_eq!(checked_blocks(Damage::KeyBit0), [0].into());
+    assert_eq!(checked_blocks(Damage::KeyAtLow), [0].into());
+    // The last page of a level has no end.
+    assert_eq!(checked_blocks(Damage::KeyAtEnd), [0, 11].into());
+    // In the node tree a key next to another is a key like any other.
+    assert_eq!(checked(Damage::KeyTwin), [(0, 0), (0, 11), (11, 0)].into());
+}
+
+#[test]
+fn trailers() {
+    assert_eq!(tested(Damage::TrailerBit0), [0].into());
+    assert_eq!(tested(Damage::TrailerBits), [14].into());
+    assert_eq!(tested(Damage::SignatureBit0), [14].into());
+    assert_eq!(tested(Damage::ListedBit0), [0].into());
+    assert_eq!(tested(Damage::CodedBit0), [0].into());
+}
+
+fn block_at_fault<'a>(built: &'a Built, spoilt: &Spoilt) -> &'a PlacedBlock {
+    built.block(spoilt.blocks[0]).expect("it is placed")
+}
+
+/// Other bytes under the cyclic method, for a block that is not internal.
+#[test]
+fn bytes_of_another_number() {
+    for damage in [Damage::CodedBit0, Damage::ListedBit0] {
+        for (built, spoilt) in spoilt(damage) {
+            let block = block_at_fault(&built, &spoilt);
+            let mut out = vec![0; block.data.len()];
+            let read = read_block(&spoilt.image, block.number, &mut out);
+            assert_eq!(read, Ok(out.len()));
+            let same = built.method != model::coding::CYCLIC || block.number & 2 == 2;
+            assert_eq!(out == block.data, same, "{damage:?}");
+        }
+    }
+}
+
+#[test]
+fn numbers_that_name_a_block() {
+    for damage in [Damage::DataBit0, Damage::TreeBit0, Damage::DataOne] {
+        for (built, spoilt) in spoilt(damage) {
+            for node in &built.nodes {
+                let mut out = vec![0; 65_536];
+                let number = u64::from(node.node);
+                let length = read_node(&spoilt.image, number, &mut out);
+                let length = length.expect("it is read").expect("it is there");
+                let data = built.data(node);
+                if damage == Damage::DataOne && length == 0 {
+                    assert!(data.is_empty() || spoilt.nodes.contains(&number));
+                } else {
+                    assert_eq!(out[..length], data);
+                }
+            }
+        }
+    }
+}
