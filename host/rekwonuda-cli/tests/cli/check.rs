@@ -3,6 +3,7 @@
 use crate::images::sound;
 use crate::runs::{file, office, run, run_in, Run};
 use crate::spoilt::{changed, flipped, sealed, with_block, with_bytes, with_data, with_tree};
+use model::build::bit_0::ticket;
 use model::build::seal::seal_page;
 use model::build::{build, Built, PlacedPage, Plan};
 use model::page::Tree;
@@ -78,6 +79,25 @@ fn refused(name: &str, bytes: &[u8], status: i32, refusal: u64, place: u64, word
         );
     }
     run
+}
+
+#[test]
+fn bit_0_of_a_block_number_tells_no_blocks_apart() {
+    let mut built = ticket();
+    let block = &built.blocks[0];
+    let place = block.offset as u64;
+    built.image[block.offset] ^= 1;
+    let words = [
+        "data block 0x1518, of",
+        "used by the data of nodes 0x8022, 0x8042",
+    ];
+    refused("bit_0.pst", &built.image, 1, 15, place, &words);
+    let path = file("bit_0_sound.pst", &ticket().image);
+    let all = run(&["check", "--all"], &path, &[]);
+    assert!(all.says("block tree accepted 1 block,"), "{}", all.text);
+    assert!(all.says("blocks accepted 1 block,"), "{}", all.text);
+    assert!(all.says("block 0x151d, the data of node 0x8062"));
+    assert!(!all.says("the data of node 0x8022"), "{}", all.text);
 }
 
 #[test]

@@ -3,6 +3,7 @@
 use crate::check::root_page;
 use crate::images::{sample, sound};
 use crate::runs::{file, run};
+use model::build::bit_0::data_one;
 use model::build::{build, Plan};
 use model::page::Tree;
 
@@ -38,6 +39,18 @@ fn nodes_lists_every_node() {
     }
     let text = run(&["nodes"], &path, &[]);
     assert_eq!(text.text.lines().count(), built.nodes.len() + 1);
+}
+
+#[test]
+fn data_block_1_is_listed_as_none() {
+    let built = data_one();
+    assert_eq!(built.nodes[1].data, 1);
+    let path = file("data_one.pst", &built.image);
+    let answer = run(&["nodes", "--json"], &path, &[]).json();
+    let data = |at: usize| answer["nodes"][at]["data"].as_str();
+    assert_eq!((data(0), data(1), data(2)), (None, None, Some("22")));
+    let checked = run(&["check"], &path, &[]);
+    assert_eq!(checked.status, 0, "{}", checked.text);
 }
 
 #[test]
