@@ -1,7 +1,7 @@
 //! `check` of one file.
 
 use crate::images::sound;
-use crate::runs::{file, office, run, run_in, Run};
+use crate::runs::{emulated, file, office, run, run_in, Run};
 use crate::spoilt::{changed, flipped, sealed, with_block, with_bytes, with_data, with_tree};
 use model::build::bit_0::ticket;
 use model::build::seal::seal_page;
@@ -345,6 +345,9 @@ fn a_file_that_is_too_long_is_told_by_its_length() {
 
 #[test]
 fn a_file_is_held_in_memory_once() {
+    if emulated() {
+        return;
+    }
     let path = Path::new(env!("CARGO_TARGET_TMPDIR")).join("once.pst");
     File::create(&path).unwrap().set_len(300 << 20).unwrap();
     let named = path.display();

@@ -1,6 +1,6 @@
 //! `check` of several files and of folders.
 
-use crate::runs::{file, folder, office, run, run_in, Run};
+use crate::runs::{emulated, file, folder, office, run, run_in, Run};
 use crate::spoilt::{flipped, sealed};
 use serde_json::Value;
 use std::fs::{self, File};
@@ -157,6 +157,9 @@ fn all_gives_the_counts_of_each_file() {
 
 #[test]
 fn memory_is_bounded_by_the_number_of_jobs() {
+    if emulated() {
+        return;
+    }
     let top = folder("many_large");
     for at in 0..6 {
         let name = format!("{at}.pst");

@@ -69,6 +69,18 @@ pub fn run_in(folder: &Path, script: &str) -> Run {
     Run::of(shell.output().expect("there is a shell"))
 }
 
+/// Whether the command line runs under an emulator, whose own memory is several hundred MiB and counts
+/// as the program's, so that a bound on it tells nothing. The shell is the machine's own.
+pub fn emulated() -> bool {
+    let machine = Command::new("sh").args(["-c", "uname -m"]).output();
+    let machine = machine.expect("there is a shell").stdout;
+    let emulated = String::from_utf8_lossy(&machine).trim() != std::env::consts::ARCH;
+    if emulated {
+        eprintln!("not tested under an emulator: a bound on memory");
+    }
+    emulated
+}
+
 pub fn repository(path: &str) -> PathBuf {
     Path::new(env!("CARGO_MANIFEST_DIR"))
         .join("../..")
