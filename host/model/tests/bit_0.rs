@@ -313,6 +313,7 @@ fn list(image: &[u8]) -> Vec<u64> {
     let mut numbers = Vec::new();
     let mut from = Some(0);
     while let Some(block) = from.and_then(|from| next_block(image, from).expect("a list").found()) {
+        assert!(numbers.last() < Some(&block.block), "it does not move on");
         numbers.push(block.block);
         from = block.block.checked_add(1);
     }
