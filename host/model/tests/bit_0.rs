@@ -539,8 +539,10 @@ fn page_numbers_keep_all_bits() {
     image[page.offset + 8] ^= 1;
     seal_page(&mut image, page.offset);
     assert_eq!(check_blocks(&image), refused(8, below));
+    // In the page itself, under the signature of the one number and of the other.
     let mut image = built.image.clone();
     image[leaf.offset + 504] ^= 1;
+    assert_eq!(check_blocks(&image), refused(8, leaf));
     seal_page(&mut image, leaf.offset);
     assert_eq!(check_blocks(&image), refused(8, leaf));
     assert_eq!(test_block(&image, 0x101), refused(8, leaf));
