@@ -313,6 +313,7 @@ fn list(image: &[u8]) -> Vec<u64> {
     let mut numbers = Vec::new();
     let mut from = Some(0);
     while let Some(block) = from.and_then(|from| next_block(image, from).expect("a list").found()) {
+        assert!(numbers.last() < Some(&block.block), "it does not move on");
         numbers.push(block.block);
         from = block.block.checked_add(1);
     }
@@ -538,8 +539,10 @@ fn page_numbers_keep_all_bits() {
     image[page.offset + 8] ^= 1;
     seal_page(&mut image, page.offset);
     assert_eq!(check_blocks(&image), refused(8, below));
+    // In the page itself, under the signature of the one number and of the other.
     let mut image = built.image.clone();
     image[leaf.offset + 504] ^= 1;
+    assert_eq!(check_blocks(&image), refused(8, leaf));
     seal_page(&mut image, leaf.offset);
     assert_eq!(check_blocks(&image), refused(8, leaf));
     assert_eq!(test_block(&image, 0x101), refused(8, leaf));

@@ -92,7 +92,7 @@ fn assert_listing(built: &Built) {
             .expect("a list")
             .found()
     }) {
-        numbers.insert(block.block);
+        assert!(numbers.insert(block.block), "it does not move on");
         from = block.block.checked_add(1);
     }
     assert_eq!(

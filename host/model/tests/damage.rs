@@ -61,8 +61,7 @@ fn keys() {
     assert_eq!(checked_blocks(Damage::KeyTwin), [11].into());
     assert_eq!(checked_blocks(Damage::KeyBit0), [0].into());
     assert_eq!(checked_blocks(Damage::KeyAtLow), [0].into());
-    // The last page of a level has no end.
-    assert_eq!(checked_blocks(Damage::KeyAtEnd), [0, 11].into());
+    assert_eq!(checked_blocks(Damage::KeyAtEnd), [11].into());
     // In the node tree a key next to another is a key like any other.
     assert_eq!(checked(Damage::KeyTwin), [(0, 0), (0, 11), (11, 0)].into());
 }

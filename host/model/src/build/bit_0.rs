@@ -2,7 +2,7 @@
 
 use super::blocks::tree_bytes;
 use super::heaps::{property_context, HeapPlan};
-use super::seal::{seal_block, seal_header, seal_page, trailer_at};
+use super::seal::{seal_block, seal_page, trailer_at};
 use super::{without_bit_0, Builder, Built, PlacedPage, Plan};
 use crate::bytes::{put, u64_at};
 use crate::checksum::signature;
@@ -143,14 +143,14 @@ pub fn highest() -> Built {
     builder.finish()
 }
 
-/// The number of the BBT's root page has bit 0 the other way in the header.
+/// The BBT's root page has its number with bit 0 the other way, under the signature of the right one.
 pub fn page_number() -> Built {
     let mut builder = Builder::new(50, &tidy(NONE));
     builder.fill(&[4]);
     builder.name(&[5, 1]);
     let mut built = builder.finish();
-    built.image[232] ^= 1;
-    seal_header(&mut built.image);
+    let page = root(&built).offset;
+    built.image[page + 504] ^= 1;
     built
 }
 

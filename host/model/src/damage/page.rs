@@ -42,7 +42,8 @@ impl<'a> Spoiler<'a> {
     }
 
     fn page_for(&mut self, damage: Damage) -> Option<&'a PlacedPage> {
-        let fits = |page: &&PlacedPage| match damage {
+        let roots_only = self.random.one_in(4);
+        let fits = |page: &&'a PlacedPage| match damage {
             Damage::ChildNumber | Damage::ChildOffset | Damage::ChildGraft | Damage::ChildBit0 => {
                 page.level > 0
             }
@@ -54,11 +55,10 @@ impl<'a> Spoiler<'a> {
             | Damage::KeyHigh
             | Damage::KeyUpperHalf
             | Damage::KeyBit0
-            | Damage::KeyAtLow
-            | Damage::KeyAtEnd => !page.keys.is_empty(),
+            | Damage::KeyAtLow => !page.keys.is_empty(),
+            Damage::KeyAtEnd => !page.keys.is_empty() && self.end(page) < u64::MAX,
             _ => true,
         };
-        let roots_only = self.random.one_in(4);
         let chosen = |page: &&PlacedPage| !roots_only || page.is_root;
         let pages: Vec<_> = self
             .built
