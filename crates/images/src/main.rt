@@ -22,7 +22,8 @@ fn image_lines(name: &[u8]) {
     blocks::list_blocks(&buffer[..n], &mut out);
 }
 
-// Each method, depth and height of a property tree.
+// Each method, depth and height of a property tree. In 06 two index keys of the block tree differ in
+// bit 0 alone, which is 11.
 fn valid_images() {
     image_lines(b"01-empty.img");
     image_lines(b"02-none-level-0.img");
@@ -61,7 +62,7 @@ fn page_images() {
     image_lines(b"27-refusal-11-keylow.img");
 }
 
-// Refusals 12 to 20.
+// Refusals 13 to 20; in 28 a data tree names a child with bit 0 that is listed without it.
 fn data_images() {
     image_lines(b"28-refusal-12-treechild.img");
     image_lines(b"29-refusal-13-listedsize.img");
@@ -75,9 +76,27 @@ fn data_images() {
     image_lines(b"37-refusal-20-recordkey.img");
 }
 
+// Request 1/13: bit 0 of a block number, on one side and not on the other.
+fn bit_zero_images() {
+    image_lines(b"38-bit0-ticket.img");
+    image_lines(b"39-bit0-twins.img");
+    image_lines(b"40-bit0-tree.img");
+    image_lines(b"41-bit0-none.img");
+    image_lines(b"42-bit0-permute.img");
+    image_lines(b"43-bit0-cyclic.img");
+    image_lines(b"44-bit0-data-one.img");
+    image_lines(b"45-bit0-data-one-alone.img");
+    image_lines(b"46-bit0-index.img");
+    image_lines(b"47-bit0-range-end.img");
+    image_lines(b"48-bit0-trailers.img");
+    image_lines(b"49-bit0-highest.img");
+    image_lines(b"50-bit0-page-number.img");
+}
+
 fn main() {
     valid_images();
     header_images();
     page_images();
     data_images();
+    bit_zero_images();
 }
