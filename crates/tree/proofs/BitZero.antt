@@ -1,7 +1,7 @@
 -- Numbers that differ only in a reserved bit 0 are answered alike. Assumes nothing.
 use Prim.Native.Nat.{ℕ}
-use mathlib.Core.Path.{_≡_, ap}
-use mathlib.Core.List.{List, _++_, map}
+use mathlib.Core.Path.{ap}
+use mathlib.Core.List.{_++_, map}
 use Rattle.refusal.specs.Order.{after}
 use Rattle.keys.specs.declared.Sought.the-variants.{Equal}
 use Rattle.search.specs.Answer.{refused}

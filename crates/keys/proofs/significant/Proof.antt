@@ -1,4 +1,3 @@
-use mathlib.Core.Path.{sym, ap, _∙_}
 use Rattle.keys.specs.Records.{significant}
 use borrow.Author.Needs.{needs}
 use Rattle.keys.proofs.significant.Statement.{statement}
