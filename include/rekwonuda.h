@@ -21,8 +21,8 @@
  * in a block's trailer and with the number asked for, they are compared with that bit cleared: two
  * entries of the block tree that differ only there are equal, which is refused with 11, and
  * rkw_find_block, rkw_test_block and rkw_read_block answer alike for two numbers that differ only
- * there. The bit counts where a number goes into a signature or a cyclic key, and in page numbers and
- * node numbers.
+ * there; rkw_next_block takes the number that it is given with all its bits. The bit counts where a
+ * number goes into a signature or a cyclic key, and in page numbers and node numbers.
  *
  * Refusals, each with its place:
  *    1  the image is under 564 or over 1,073,741,824 bytes long; 0

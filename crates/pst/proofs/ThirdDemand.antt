@@ -17,11 +17,11 @@ use Rattle.search.specs.Answer as search
 use Rattle.search.specs.Promises.{Counts}
 use Rattle.page.specs.declared.Layout.{Layout}
 use Rattle.page.specs.Layout.{nbt, bbt, compared, FairLayout}
-use Rattle.page.specs.Page.{keyIn}
+use Rattle.page.specs.Page.{numberIn, keyIn}
 use Rattle.page.proofs.Fairs.{fair-nbt, fair-bbt}
 use Rattle.tree.specs.Tree.{treeFits, scan}
 use Rattle.tree.specs.Lookup.{lookup, next, path}
-use Rattle.tree.specs.Answers.{shown, asNode, asBlock, nodeOf, blockOf, nextNodeOf, nextBlockOf}
+use Rattle.tree.specs.Answers.{fieldsOf, shown, asNode, asBlock, nodeOf, blockOf, nextNodeOf, nextBlockOf}
 use Rattle.tree.proofs.Demand3.{demand3}
 use Rattle.tree.proofs.InOrder.{path-counted, in-order}
 use Rattle.tree.proofs.OffPath.{off-path, off-read}
@@ -29,7 +29,7 @@ use Rattle.tree.proofs.Listing.{listing, lists, few-pages-read}
 use Rattle.pst.specs.Meaning.{Meaning, answered, absent, refuses, verdictMeans, nodeMeans, blockMeans, refusalMeans}
 use Rattle.pst.specs.Meaning as meaning
 use Rattle.pst.specs.Outcomes.{nodesOutcome, blocksOutcome, nodeOutcome, blockOutcome, nextNodeOutcome, nextBlockOutcome}
-use Rattle.pst.specs.Demands.{nodeSays, blockSays, Lookups, Paths, ThirdDemand, Listings}
+use Rattle.pst.specs.Demands.{nodeSays, blockSays, Lookups, Paths, ThirdDemand, FirstValue, Listings}
 use Rattle.pst.proofs.Injective.{verdict-injective}
 
 -- the case of a meaning, and the count in a lookup's
@@ -120,12 +120,13 @@ module _ (L : Layout) (fair : FairLayout L) (says : Answer (List ℕ) → Meanin
         off-path = λ key one other same. ap says (off-path L key one other fair same);
       }
 
-  listings : L .key ≤ L .sought → Listings L says (λ image. verdictMeans (treeFits L image)) (λ image from. says (next L image from))
-  listings small =
+  listings : L .key ≤ L .sought → ((entry : List ℕ) (pages : ℕ) → FirstValue (numberIn L entry) (says (found entry pages))) → Listings L says (λ image. verdictMeans (treeFits L image)) (λ image from. says (next L image from))
+  listings small handed =
       record {
         answers = λ image from e. let s = listing L image (fits L image e) .answers from in record { pages = s .count; is = ap says (s .is) };
         never-refused = λ image from e. let s = listing L image (fits L image e) .answers from in ap (λ a. refuses (says a)) (s .is) ∙ says-answer says plain _ _;
         lists = λ image bytes e. lists L image small bytes (fits L image e);
+        handed-out = handed;
         found-count = λ image from e n q. found-counts says plain _ (next L image from) (in-order AtLeast L image from .counts) e n q;
         absent-count = λ image from n q. absent-counts says plain _ (next L image from) (in-order AtLeast L image from .counts) n q;
         few = few-pages-read L;
@@ -152,10 +153,18 @@ pub third-demand : ThirdDemand
 third-demand = record { nodes = node-lookups; blocks = block-lookups; node-paths = node-paths; block-paths = block-paths }
 
 -- beyond the demands
+node-handed : (entry : List ℕ) (pages : ℕ) → FirstValue (numberIn nbt entry) (nodeSays (found entry pages))
+unfolding nodeMeans asNode shown fieldsOf numberIn nbt
+node-handed entry pages = record { others = _; is = refl }
+
+block-handed : (entry : List ℕ) (pages : ℕ) → FirstValue (numberIn bbt entry) (blockSays (found entry pages))
+unfolding blockMeans asBlock shown fieldsOf numberIn bbt
+block-handed entry pages = record { others = _; is = refl }
+
 pub node-listings : Listings nbt nodeSays nodesOutcome nextNodeOutcome
 unfolding nodesOutcome nextNodeOutcome nextNodeOf nbt
-node-listings = listings nbt fair-nbt nodeSays node-plain (le-refl 4)
+node-listings = listings nbt fair-nbt nodeSays node-plain (le-refl 4) node-handed
 
 pub block-listings : Listings bbt blockSays blocksOutcome nextBlockOutcome
 unfolding blocksOutcome nextBlockOutcome nextBlockOf bbt
-block-listings = listings bbt fair-bbt blockSays block-plain (le-refl 8)
+block-listings = listings bbt fair-bbt blockSays block-plain (le-refl 8) block-handed

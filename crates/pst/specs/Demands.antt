@@ -1,7 +1,7 @@
--- The user's three demands, of the outcomes of the public calls alone. Assumes nothing: these are definitions.
+-- The user's three demands, and what the requests of 02 add to them, of the outcomes of the public calls alone. Assumes nothing: these are definitions.
 --
 -- The contract of a call says: what the answer means is the outcome that pst/specs/Outcomes names, and each buffer at exit is the one named there. What holds of every
--- outcome so holds of every call. Proved in pst/proofs/Demands.
+-- outcome so holds of every call. Proved in pst/proofs/FirstDemand, SecondDemand, ThirdDemand and FirstRequest.
 use Prim.Native.Nat.{ℕ, _+_, _*_, _≤_}
 use mathlib.Core.Path.{_≡_}
 use mathlib.Core.Bool.{true, false}
@@ -27,7 +27,7 @@ use Rattle.header.specs.Header.{headerRules, says}
 use Rattle.header.specs.Sound.{HeaderSound}
 use Rattle.page.specs.declared.Layout.{Layout}
 use Rattle.page.specs.Layout.{nbt, bbt, asGiven, compared}
-use Rattle.page.specs.Page.{keyIn}
+use Rattle.page.specs.Page.{numberIn, keyIn}
 use Rattle.tree.specs.declared.Listed.{Listed}
 use Rattle.tree.specs.declared.FoundBlock.the-variants as block
 use Rattle.tree.specs.Tree.{rootLevel, treeRules, scan, allRoutes}
@@ -190,11 +190,18 @@ pub record FirstFrom (says : Answer (List ℕ) → Meaning) (outcome : Meaning) 
   pub pages : ℕ
   pub is : outcome ≡ says (answer entry pages)
 
+-- an answer whose first value is this number
+pub record FirstValue (number : ℕ) (outcome : Meaning) : Type 0 where
+  pub others : List ℕ
+  pub is : outcome ≡ answered (number ∷ others)
+
 pub record Listings (L : Layout) (says : Answer (List ℕ) → Meaning) (check : List ℕ → Meaning) (next : List ℕ → ℕ → Meaning) : Type 0 where
   -- where the whole-tree check accepts: the first entry of the scan whose key is at least the number as given, and never a refusal; going from 0, each time one above the number found, lists exactly the scan, and ends
   pub answers : (image : List ℕ) (from : ℕ) → check image ≡ answered [] → FirstFrom says (next image from) (fromKey (keyIn L) (asGiven L from) (scan L image))
   pub never-refused : (image : List ℕ) (from : ℕ) → check image ≡ answered [] → refuses (next image from) ≡ false
   pub lists : (image : List ℕ) → Bytes image → check image ≡ answered [] → TreeLists L image 0 (scan L image)
+  -- the number of an entry found is the first value handed out
+  pub handed-out : (entry : List ℕ) (pages : ℕ) → FirstValue (numberIn L entry) (says (found entry pages))
   -- in any image at all: the count is the number of pages read, at most twice the root's level plus one are read, and nothing else changes the answer
   pub found-count : (image : List ℕ) (from : ℕ) (entry : List ℕ) (pages : ℕ) → next image from ≡ says (found entry pages) → pages ≡ length (pagesRead AtLeast L image from)
   pub absent-count : (image : List ℕ) (from pages : ℕ) → next image from ≡ says (search.absent pages) → pages ≡ length (pagesRead AtLeast L image from)
