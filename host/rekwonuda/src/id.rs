@@ -50,8 +50,13 @@ id! {
 }
 
 id! {
-    /// The number of a block. Bit 0 is reserved: numbers that differ only there name one block, and every
-    /// call that looks a block up answers alike for them. As values they differ; see [`BlockId::key`].
+    /// The number of a block. Bit 0 is reserved: numbers that differ only there name one block, and
+    /// [`Image::find_block`], [`Image::test_block`] and [`Image::read_block`] answer alike for them. As
+    /// values they differ; see [`BlockId::key`].
+    ///
+    /// [`Image::find_block`]: crate::Image::find_block
+    /// [`Image::test_block`]: crate::Image::test_block
+    /// [`Image::read_block`]: crate::Image::read_block
     ///
     /// ```
     /// use rekwonuda::BlockId;
