@@ -3,7 +3,7 @@ use Prim.Native.Nat.{ℕ, _+_, _%_, _≤_}
 use mathlib.Core.Path.{_≡_, refl}
 use mathlib.Core.Bool.{Bool, true, false, _&&_, _||_}
 use mathlib.Core.Logic.{_↔_, _⊎_, inl, inr}
-use mathlib.Core.List.{List, map}
+use mathlib.Core.List.{List, _++_}
 use native.Mathlib.Omega.{arith}
 use lib.Dec.{leb, eqb}
 use borrow.Author.Tests.{leb-true, eqb-true, le-leb, eq-eqb}
@@ -13,14 +13,15 @@ use Rattle.refusal.specs.declared.Refusal.{Refusal}
 use Rattle.refusal.specs.declared.Verdict.the-variants.{Accepted, Refused}
 use Rattle.refusal.specs.Order.{AllHold, none, both, FirstFault}
 use Rattle.refusal.proofs.OrderLaws.{accepted-exactly, refused-exactly}
-use Rattle.keys.proofs.Climbs.{ordered-exactly, climbing-is, is-climbing}
+use Rattle.keys.proofs.Climbs.{ordered-exactly}
 use Rattle.header.specs.Header.{fileEnd}
 use Rattle.page.specs.declared.Layout.{Layout}
 use Rattle.page.specs.declared.Level.{Level}
 use Rattle.page.specs.declared.Level.the-variants.{AtRoot, Exactly}
 use Rattle.page.specs.declared.Link.{Link}
-use Rattle.page.specs.Page.{signature, page, entries, keyIn, offsetFits, kindFits, numberFits, checksumFits, levelFits, mayBeEmpty, countsFit, keysFit, bytesRules, pageRules, pageFits}
+use Rattle.page.specs.Page.{signature, page, offsetFits, kindFits, numberFits, checksumFits, levelFits, mayBeEmpty, countsFit, bytesRules, sixToTen, keysIn, keyRules, pageRules, pageFits}
 use Rattle.page.specs.Sound.{Wanted, MayBeEmpty, BytesSound, PageSound}
+use Rattle.page.proofs.KeyLaws.{climbing-of, of-climbing}
 use Rattle.page.proofs.PageLaws.{counts-of}
 
 wanted-of : (w : Level) (l : ℕ) → levelFits w l ≡ true → Wanted w l
@@ -66,13 +67,13 @@ of-counts L p g h =
     (both-and _ _ (both-and _ _ (both-and _ _ (of-wanted (p .level) _ (h .level)) (eq-eqb _ _ (h .size))) (le-leb _ _ (h .room))) (le-leb _ _ (h .count)))
     (of-some (p .level) _ _ (h .some))
 
-bytes-of : (L : Layout) (p : Link) (g : List ℕ) → AllHold (bytesRules L p g) → BytesSound L p g
-unfolding bytesRules kindFits numberFits checksumFits keysFit
-bytes-of L p g (both k (both n (both s (both c (both o none))))) =
+bytes-of : (L : Layout) (p : Link) (g : List ℕ) → AllHold (bytesRules L p g ++ keyRules p (keysIn L g)) → BytesSound L p g
+unfolding bytesRules kindFits numberFits checksumFits keysIn
+bytes-of L p g (both k (both n (both s (both c o)))) =
     let kinds = and-both (eqb (byte g (L .trailer)) (L .kind)) (eqb (byte g (L .trailer + 1)) (L .kind)) k in
     let numbers = and-both (eqb (field g (L .number) (L .word)) (p .number)) (eqb (field g (L .trailer + 2) 2) (signature (p .offset) (p .number))) n in
     let counts = counts-of L p g c in
-    let keys = ordered-exactly (p .range) (map (keyIn L) (entries L g)) .0 (climbing-is _ o) in
+    let keys = ordered-exactly (p .range) (keysIn L g) .0 (climbing-of p _ o) in
     record {
       kind = (eqb-true _ _ (kinds .0), eqb-true _ _ (kinds .1));
       number = eqb-true _ _ (numbers .0);
@@ -87,17 +88,17 @@ bytes-of L p g (both k (both n (both s (both c (both o none))))) =
       inside = keys .1;
     }
 
-of-bytes : (L : Layout) (p : Link) (g : List ℕ) → BytesSound L p g → AllHold (bytesRules L p g)
-unfolding bytesRules kindFits numberFits checksumFits keysFit
+of-bytes : (L : Layout) (p : Link) (g : List ℕ) → BytesSound L p g → AllHold (bytesRules L p g ++ keyRules p (keysIn L g))
+unfolding bytesRules kindFits numberFits checksumFits keysIn
 of-bytes L p g h =
     both (both-and _ _ (eq-eqb _ _ (h .kind .0)) (eq-eqb _ _ (h .kind .1)))
     (both (both-and _ _ (eq-eqb _ _ (h .number)) (eq-eqb _ _ (h .signed)))
     (both (eq-eqb _ _ (h .summed))
     (both (of-counts L p g h)
-    (both (is-climbing _ (ordered-exactly (p .range) (map (keyIn L) (entries L g)) .1 (h .ascending, h .inside))) none))))
+    (of-climbing p _ (ordered-exactly (p .range) (keysIn L g) .1 (h .ascending, h .inside))))))
 
 sound-of : (L : Layout) (image : List ℕ) (p : Link) → AllHold (pageRules L image p) → PageSound L image p
-unfolding pageRules offsetFits
+unfolding pageRules sixToTen offsetFits
 sound-of L image p (both o h) =
     let parts = three (eqb (p .offset % 64) 0) (leb 17408 (p .offset)) (leb (p .offset + 512) (fileEnd image)) o in
     record {
@@ -108,7 +109,7 @@ sound-of L image p (both o h) =
     }
 
 of-sound : (L : Layout) (image : List ℕ) (p : Link) → PageSound L image p → AllHold (pageRules L image p)
-unfolding pageRules offsetFits
+unfolding pageRules sixToTen offsetFits
 of-sound L image p h =
     both (both-and _ _ (both-and _ _ (eq-eqb _ _ (h .step)) (le-leb _ _ (h .least))) (le-leb _ _ (h .ends)))
     (of-bytes L p (page image (p .offset)) (h .bytes))

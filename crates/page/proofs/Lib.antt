@@ -1,3 +1,4 @@
+pub mod KeyLaws
 pub mod PageLaws
 pub mod Fairs
 pub mod Exactly

@@ -2,7 +2,7 @@
 use Prim.Native.Nat.{ℕ, zero, suc, _+_, _*_, _-_, _/_, _%_, _^_, _≤_, _<_}
 use mathlib.Core.Path.{_≡_, refl, sym, ap, _∙_}
 use mathlib.Core.Bool.{Bool, true, false, _&&_, _||_}
-use mathlib.Core.List.{List, map}
+use mathlib.Core.List.{List, _++_, map}
 use mathlib.Core.Logic.{⊎-elim}
 use native.Mathlib.Nat.{mod-eq-of-lt, le-trans, mul-le-mul-right}
 use native.Mathlib.Omega.{arith}
@@ -15,7 +15,7 @@ use Rattle.le.proofs.FieldLaws.{part-is, part-length}
 use Rattle.le.proofs.ByteLaws.{part-bytes}
 use Rattle.refusal.specs.declared.Verdict.the-variants.{Accepted, Refused}
 use Rattle.refusal.specs.declared.Fault.the-variants.{PageOffset}
-use Rattle.refusal.specs.Order.{_at_, inOrder, AllHold, none, both}
+use Rattle.refusal.specs.Order.{_at_, inOrder, AllHold, both}
 use Rattle.refusal.proofs.OrderLaws.{test-goes, test-ends, accepted-exactly}
 use Rattle.keys.specs.declared.Shape.{Shape}
 use Rattle.keys.specs.declared.Order.the-variants.{Climbing}
@@ -25,14 +25,14 @@ use Rattle.keys.specs.Range.{ordered}
 use Rattle.keys.proofs.ClearedLaws.{significant-most, significant-above}
 use Rattle.keys.proofs.RecordLaws.{key-same, keys-same, records-short}
 use Rattle.keys.proofs.FoundLaws.{keys-are}
-use Rattle.keys.proofs.Climbs.{climbing-is}
 use Rattle.header.specs.Header.{fileEnd}
 use Rattle.header.proofs.HeaderLaws.{end-inside}
 use Rattle.page.specs.declared.Layout.{Layout}
 use Rattle.page.specs.declared.Level.the-variants.{Exactly}
 use Rattle.page.specs.declared.Link.{Link}
 use Rattle.page.specs.Layout.{asGiven, compared, entrySize, mostRoom, shape, FairLayout}
-use Rattle.page.specs.Page.{page, countOf, roomOf, sizeOf, levelOf, entries, numberIn, keyIn, offsetFits, levelFits, mayBeEmpty, countsFit, keysFit, bytesRules, pageRules, pageFits}
+use Rattle.page.specs.Page.{page, countOf, roomOf, sizeOf, levelOf, entries, numberIn, keyIn, offsetFits, levelFits, mayBeEmpty, countsFit, bytesRules, sixToTen, keysIn, keyRules, pageRules, pageFits}
+use Rattle.page.proofs.KeyLaws.{climbing-of}
 
 -- a number that a call is given
 pub given-whole : (L : Layout) (number : ℕ) → L .sought ≡ 8 → number < 18446744073709551616 → number ≡ asGiven L number
@@ -184,18 +184,18 @@ pub child-filled : (w level : ℕ) → mayBeEmpty (Exactly w) level ≡ false
 unfolding mayBeEmpty
 child-filled w level = refl
 
--- a page's tests: its rules; 6, then those of its bytes
+-- a page's tests: its rules; 6, then those of its bytes and keys
 pub page-rules : (L : Layout) (image : List ℕ) (p : Link) → pageFits L image p ≡ inOrder (pageRules L image p)
 unfolding pageFits
 page-rules L image p = refl
 
-pub page-goes : (L : Layout) (image : List ℕ) (p : Link) → offsetFits image (p .offset) ≡ true → inOrder (bytesRules L p (page image (p .offset))) ≡ pageFits L image p
-unfolding pageFits pageRules inOrder
+pub page-goes : (L : Layout) (image : List ℕ) (p : Link) → offsetFits image (p .offset) ≡ true → inOrder (bytesRules L p (page image (p .offset)) ++ keyRules p (keysIn L (page image (p .offset)))) ≡ pageFits L image p
+unfolding pageFits pageRules sixToTen inOrder
 page-goes L image p e = sym (test-goes Refused _ _ _ e)
 
 pub page-ends : (L : Layout) (image : List ℕ) (p : Link) → offsetFits image (p .offset) ≡ false → Refused (PageOffset at p .offset) ≡ pageFits L image p
-unfolding pageFits pageRules inOrder
-page-ends L image p e = sym (test-ends Refused _ _ (inOrder (bytesRules L p (page image (p .offset)))) e)
+unfolding pageFits pageRules sixToTen inOrder
+page-ends L image p e = sym (test-ends Refused _ _ (inOrder (bytesRules L p (page image (p .offset)) ++ keyRules p (keysIn L (page image (p .offset))))) e)
 
 -- an accepted page: its counts fit, and its keys climb
 pub all-of-page : (L : Layout) (image : List ℕ) (p : Link) → pageFits L image p ≡ Accepted → AllHold (pageRules L image p)
@@ -203,17 +203,17 @@ unfolding pageFits
 all-of-page L image p e = accepted-exactly (pageRules L image p) .0 e
 
 pub page-offset : (L : Layout) (image : List ℕ) (p : Link) → AllHold (pageRules L image p) → p .offset + 512 ≤ length image
-unfolding pageRules
+unfolding pageRules sixToTen
 page-offset L image p (both o h) = offset-inside image (p .offset) o
 
 pub page-counts : (L : Layout) (image : List ℕ) (p : Link) → AllHold (pageRules L image p) → countsFit L p (page image (p .offset)) ≡ true
-unfolding pageRules bytesRules
-page-counts L image p (both o (both k (both n (both c (both t (both s none)))))) = t
+unfolding pageRules sixToTen bytesRules
+page-counts L image p (both o (both k (both n (both c (both t s))))) = t
 
 pub page-keys : (L : Layout) (image : List ℕ) (p : Link) → AllHold (pageRules L image p)
     → ordered (p .range) (map (keyIn L) (entries L (page image (p .offset)))) ≡ Climbing
-unfolding pageRules bytesRules keysFit
-page-keys L image p (both o (both k (both n (both c (both t (both s none)))))) = climbing-is _ s
+unfolding pageRules sixToTen bytesRules keysIn
+page-keys L image p (both o (both k (both n (both c (both t s))))) = climbing-of p _ s
 
 -- the numbers of entries made of bytes
 pub entries-short : (L : Layout) (image : List ℕ) → Bytes image → (offset : ℕ) → All (λ e. numberIn L e < 256 ^ L .key) (entries L (page image offset))
@@ -231,5 +231,5 @@ number-above L e f h = significant-above (L .reserved) (field e 0 (L .key)) (fie
 
 -- a page that is the same in two images that end alike has the same rules
 pub rules-agree : (L : Layout) (one other : List ℕ) (p : Link) → fileEnd one ≡ fileEnd other → page one (p .offset) ≡ page other (p .offset) → pageRules L one p ≡ pageRules L other p
-unfolding pageRules offsetFits
+unfolding pageRules sixToTen offsetFits
 rules-agree L one other p ends e = rw (ends, e)

@@ -1,17 +1,17 @@
--- Document 01, "Pages and trees" (003, 2.2.2.7): a page and its tests 6 to 11. Assumes nothing: these are definitions.
+-- Document 01, "Pages and trees" (003, 2.2.2.7), and document 02, 2/13: a page and its tests 6 to 11 and 21. Assumes nothing: these are definitions.
 use Prim.Native.Nat.{ℕ, _+_, _/_, _%_}
 use mathlib.Core.Bool.{Bool, false, _&&_, _||_}
-use mathlib.Core.List.{List, [], _∷_, map}
+use mathlib.Core.List.{List, [], _∷_, _++_, map}
 use lib.Bits.{bitXor}
-use lib.Dec.{leb, eqb}
+use lib.Dec.{leb, ltb, eqb}
 use lib.ListN.{take}
 use Rattle.le.specs.Bytes.{part, field, byte}
 use Rattle.crc.specs.Checksum.{checksum}
 use Rattle.refusal.specs.declared.Verdict.{Verdict}
-use Rattle.refusal.specs.declared.Fault.the-variants.{PageOffset, PageKind, PageNumber, PageChecksum, PageCounts, PageKeys}
-use Rattle.refusal.specs.Order.{_at_, Rule, rule, inOrder}
+use Rattle.refusal.specs.declared.Fault.the-variants.{PageOffset, PageKind, PageNumber, PageChecksum, PageCounts, KeyOrder, KeyRange}
+use Rattle.refusal.specs.Order.{_at_, atEntry, Rule, rule, inOrder}
 use Rattle.keys.specs.Records.{records, keyOf}
-use Rattle.keys.specs.Range.{ordered, climbing}
+use Rattle.keys.specs.Range.{inRange}
 use Rattle.header.specs.Header.{fileEnd}
 use Rattle.page.specs.declared.Layout.{Layout}
 use Rattle.page.specs.declared.Level.{Level}
@@ -90,23 +90,38 @@ countsFit L p g =
     && leb (countOf L g) (roomOf L g)
     && (leb 1 (countOf L g) || mayBeEmpty (p .level) (levelOf L g))
 
--- 11: "keys strictly ascend and lie in the page's range"
-unfoldable pub keysFit : Layout → Link → List ℕ → Bool
-keysFit L p g = climbing (ordered (p .range) (map (keyIn L) (entries L g)))
-
--- tests 7 to 11, of a page's bytes
+-- tests 7 to 10, of a page's bytes
 unfoldable pub bytesRules : Layout → Link → List ℕ → List Rule
 bytesRules L p g =
     rule (kindFits L g) (PageKind at p .offset)
     ∷ rule (numberFits L p g) (PageNumber at p .offset)
     ∷ rule (checksumFits L g) (PageChecksum at p .offset)
     ∷ rule (countsFit L p g) (PageCounts at p .offset)
-    ∷ rule (keysFit L p g) (PageKeys at p .offset)
     ∷ []
+
+unfoldable pub sixToTen : Layout → List ℕ → Link → List Rule
+sixToTen L image p = rule (offsetFits image (p .offset)) (PageOffset at p .offset) ∷ bytesRules L p (page image (p .offset))
+
+-- the keys of a page's entries, from left to right
+unfoldable pub keysIn : Layout → List ℕ → List ℕ
+keysIn L g = map (keyIn L) (entries L g)
+
+-- "Entries are tested from left to right, order before range at each entry": from the i-th key on, the one before it being `last`
+unfoldable pub keyRulesAfter : Link → ℕ → ℕ → List ℕ → List Rule
+keyRulesAfter p i last [] = []
+keyRulesAfter p i last (key ∷ keys) =
+    rule (ltb last key) (atEntry KeyOrder (p .offset) i)
+    ∷ rule (inRange (p .range) key) (atEntry KeyRange (p .offset) i)
+    ∷ keyRulesAfter p (i + 1) key keys
+
+-- 11 and 21: each key is above the one before it, and lies in the page's range. The first has none before it
+unfoldable pub keyRules : Link → List ℕ → List Rule
+keyRules p [] = []
+keyRules p (key ∷ keys) = rule (inRange (p .range) key) (atEntry KeyRange (p .offset) 0) ∷ keyRulesAfter p 1 key keys
 
 -- the page's tests, in their order
 unfoldable pub pageRules : Layout → List ℕ → Link → List Rule
-pageRules L image p = rule (offsetFits image (p .offset)) (PageOffset at p .offset) ∷ bytesRules L p (page image (p .offset))
+pageRules L image p = sixToTen L image p ++ keyRules p (keysIn L (page image (p .offset)))
 
 unfoldable pub pageFits : Layout → List ℕ → Link → Verdict
 pageFits L image p = inOrder (pageRules L image p)

@@ -1,8 +1,8 @@
--- A page's rules 6 to 11 as a plain conjunction, with no order in it. Assumes nothing: these are definitions.
+-- A page's rules 6 to 11 and 21 as a plain conjunction, with no order in it. Assumes nothing: these are definitions.
 use Prim.Native.Nat.{ℕ, _+_, _%_, _≤_}
 use mathlib.Core.Path.{_≡_}
 use mathlib.Core.Logic.{_⊎_}
-use mathlib.Core.List.{List, map}
+use mathlib.Core.List.{List}
 use lib.ListN.{take}
 use Rattle.le.specs.Bytes.{field, byte}
 use Rattle.crc.specs.Checksum.{checksum}
@@ -13,7 +13,7 @@ use Rattle.page.specs.declared.Level.{Level}
 use Rattle.page.specs.declared.Level.the-variants.{AtRoot, Exactly}
 use Rattle.page.specs.declared.Link.{Link}
 use Rattle.page.specs.Layout.{entrySize, mostRoom}
-use Rattle.page.specs.Page.{signature, page, countOf, roomOf, sizeOf, levelOf, entries, keyIn}
+use Rattle.page.specs.Page.{signature, page, countOf, roomOf, sizeOf, levelOf, keysIn}
 
 -- "0 to 7 at the root, otherwise exactly one below the parent's"
 abbrev pub Wanted : Level → ℕ → Type 0
@@ -36,8 +36,8 @@ pub record BytesSound (L : Layout) (p : Link) (g : List ℕ) : Type 0 where
   pub room : roomOf L g ≤ mostRoom L (levelOf L g)
   pub count : countOf L g ≤ roomOf L g
   pub some : (1 ≤ countOf L g) ⊎ MayBeEmpty (p .level) (levelOf L g)
-  pub ascending : Ascending (map (keyIn L) (entries L g))
-  pub inside : All (Inside (p .range)) (map (keyIn L) (entries L g))
+  pub ascending : Ascending (keysIn L g)
+  pub inside : All (Inside (p .range)) (keysIn L g)
 
 pub record PageSound (L : Layout) (image : List ℕ) (p : Link) : Type 0 where
   pub step : p .offset % 64 ≡ 0

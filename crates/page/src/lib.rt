@@ -1,4 +1,4 @@
-// One page: its tests 6 to 11, and its entries, over a layout.
+// One page: its tests 6 to 11 and 21, and its entries, over a layout.
 use keys::End;
 use keys::Order;
 use keys::Range;
@@ -7,13 +7,14 @@ use refusal::Fault;
 use refusal::Verdict;
 ghost use mathlib.Core.Path.{_≡_};
 ghost use mathlib.Core.Bool.{true};
+ghost use mathlib.Core.List.{_++_};
 ghost use Prim.Native.Nat.{_+_, _*_, _%_, _^_, _≤_, _<_};
 ghost use lib.Dec.{leb};
 ghost use lib.ListN.{length};
 ghost use Rattle.le.specs.Bytes.{byte};
 ghost use Rattle.refusal.specs.Order.{inOrder};
 ghost use Rattle.page.specs.Layout.{nbt, bbt, FairLayout, asGiven, compared as comparedOf, entrySize, mostRoom, shape};
-ghost use Rattle.page.specs.Page.{signature as signatureOf, countOf, levelOf, offsetFits, kindFits, numberFits, checksumFits, levelFits, mayBeEmpty, countsFit, keysFit, bytesRules, pageFits};
+ghost use Rattle.page.specs.Page.{signature as signatureOf, countOf, levelOf, offsetFits, kindFits, numberFits, checksumFits, levelFits, mayBeEmpty, countsFit, bytesRules, keysIn, keyRules, pageFits};
 
 // The bytes of an entry that hold one of its numbers.
 pub struct Column {
@@ -292,22 +293,26 @@ fn counts_fit(l: Layout, p: Link, page: &[u8]) -> bool
         & ((1 <= count) | may_be_empty(want, level))
 }
 
-// Test 11.
-fn keys_fit(l: Layout, p: Link, page: &[u8]) -> bool
+// Tests 11 and 21.
+fn check_keys(l: Layout, p: Link, page: &[u8]) -> Verdict
     requires { ⌜ FairLayout l × (length (now page) ≡ 512) × (countsFit l p (now page) ≡ true) ⌝ }
-    ensures { λ r. ⌜ r ≡ keysFit l p (now (page .entry)) ⌝ }
+    ensures { λ r. ⌜ r ≡ inOrder (keyRules p (keysIn l (now (page .entry)))) ⌝ }
 {
     let count = count_of(l, page);
     let shape = shape_in(l, page);
     let range = p.range;
-    let order = keys::check_keys(page, shape, count, range);
-    keys::is_climbing(order)
+    let offset = p.offset;
+    match keys::check_keys(page, shape, count, range) {
+        Order::Climbing => Verdict::Accepted,
+        Order::Unordered(i) => refusal::refused_entry(Fault::KeyOrder, offset, i as u64),
+        Order::Outside(i) => refusal::refused_entry(Fault::KeyRange, offset, i as u64),
+    }
 }
 
-// Tests 7 to 11, of a page's bytes.
+// The tests from 7 on, of a page's bytes.
 fn check_bytes(l: Layout, p: Link, page: &[u8]) -> Verdict
     requires { ⌜ FairLayout l × (length (now page) ≡ 512) ⌝ }
-    ensures { λ r. ⌜ r ≡ inOrder (bytesRules l p (now (page .entry))) ⌝ }
+    ensures { λ r. ⌜ r ≡ inOrder (bytesRules l p (now (page .entry)) ++ keyRules p (keysIn l (now (page .entry)))) ⌝ }
 {
     let offset = p.offset;
     if !kind_fits(l, page) {
@@ -322,10 +327,7 @@ fn check_bytes(l: Layout, p: Link, page: &[u8]) -> Verdict
     if !counts_fit(l, p, page) {
         return refusal::refused_at(Fault::PageCounts, offset);
     }
-    if !keys_fit(l, p, page) {
-        return refusal::refused_at(Fault::PageKeys, offset);
-    }
-    Verdict::Accepted
+    check_keys(l, p, page)
 }
 
 // The page check: test 6, and the others of the part of the image from the offset for 512 bytes.

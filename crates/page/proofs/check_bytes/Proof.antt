@@ -1,7 +1,7 @@
 use mathlib.Core.Path.{sym, _∙_}
 use Rattle.laws.proofs.Tests.{fails, holds}
 use Rattle.refusal.specs.Order.{none, both, here, later}
-use Rattle.refusal.proofs.OrderLaws.{accepted-exactly, refused-exactly}
+use Rattle.refusal.proofs.OrderLaws.{append-goes, refused-exactly}
 use Rattle.page.specs.Page.{bytesRules}
 use borrow.Author.Needs.{needs}
 use Rattle.page.proofs.check_bytes.Statement.{statement}
@@ -34,14 +34,14 @@ returns-4 c =
 returns-5 : tie.Need-returns-5
 unfolding bytesRules
 returns-5 c =
-    let d5 = c .before in let d4 = d5 .before .before in let d3 = d4 .before .before in let d2 = d3 .before .before in let d1 = d2 .before .before in
-    c .refused-at5 .ensures ∙ sym (refused-exactly _ _ .1 (later (holds _ _ (d1 .before .kind-fits .ensures) (d1 .if1 .left)) (later (holds _ _ (d2 .before .number-fits .ensures) (d2 .if2 .left)) (later (holds _ _ (d3 .before .checksum-fits .ensures) (d3 .if3 .left)) (later (holds _ _ (d4 .before .counts-fit .ensures) (d4 .if4 .left)) (here (fails _ _ (d5 .before .keys-fit .ensures) (d5 .if5 .taken))))))))
-
-returns-6 : tie.Need-returns-6
-unfolding bytesRules
-returns-6 c =
-    let d5 = c in let d4 = d5 .before .before in let d3 = d4 .before .before in let d2 = d3 .before .before in let d1 = d2 .before .before in
-    sym (accepted-exactly (bytesRules _ _ _) .1 (both (holds _ _ (d1 .before .kind-fits .ensures) (d1 .if1 .left)) (both (holds _ _ (d2 .before .number-fits .ensures) (d2 .if2 .left)) (both (holds _ _ (d3 .before .checksum-fits .ensures) (d3 .if3 .left)) (both (holds _ _ (d4 .before .counts-fit .ensures) (d4 .if4 .left)) (both (holds _ _ (d5 .before .keys-fit .ensures) (d5 .if5 .left)) none))))))
+    let d4 = c .before in let d3 = d4 .before .before in let d2 = d3 .before .before in let d1 = d2 .before .before in
+    c .check-keys .ensures
+    ∙ sym
+    (append-goes (bytesRules _ _ _) _
+    (both (holds _ _ (d1 .before .kind-fits .ensures) (d1 .if1 .left))
+    (both (holds _ _ (d2 .before .number-fits .ensures) (d2 .if2 .left))
+    (both (holds _ _ (d3 .before .checksum-fits .ensures) (d3 .if3 .left))
+    (both (holds _ _ (d4 .before .counts-fit .ensures) (d4 .if4 .left)) none)))))
 
 pub check-bytes-spec : {M : Type 1} → statement M
 check-bytes-spec =
@@ -60,6 +60,4 @@ check-bytes-spec =
     (λ c κs. search needs)
     returns-4
     (λ c κs. (c .before .before .before .before .before .before .before .before .before .pre .0, c .before .before .before .before .before .before .before .before .before .pre .1, holds _ _ (c .before .counts-fit .ensures) (c .if4 .left)))
-    (λ c κs. search needs)
-    returns-5
-    returns-6)
+    returns-5)

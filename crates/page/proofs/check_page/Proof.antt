@@ -1,8 +1,8 @@
 use Prim.Native.Nat.{ℕ}
-use mathlib.Core.List.{List}
+use mathlib.Core.List.{List, _++_}
 use Rattle.laws.proofs.Tests.{fails, holds}
 use Rattle.refusal.specs.Order.{inOrder}
-use Rattle.page.specs.Page.{bytesRules}
+use Rattle.page.specs.Page.{bytesRules, keysIn, keyRules}
 use Rattle.page.proofs.PageLaws.{offset-inside, page-part, page-goes, page-ends}
 use mathlib.Core.Path.{ap, _∙_}
 use native.Mathlib.Omega.{arith}
@@ -14,7 +14,7 @@ returns-2 : tie.Need-returns-2
 returns-2 c =
     let a = c .before .before .before .before .before .args in
     c .check-bytes .ensures
-    ∙ ap (λ (g : List ℕ). inOrder (bytesRules (a .l) (a .p) g)) (page-part (a .image .now) (a .p .offset))
+    ∙ ap (λ (g : List ℕ). inOrder (bytesRules (a .l) (a .p) g ++ keyRules (a .p) (keysIn (a .l) g))) (page-part (a .image .now) (a .p .offset))
     ∙ page-goes (a .l) (a .image .now) (a .p) (holds _ _ (c .before .before .before .offset-fits .ensures) (c .before .before .if1 .left))
 
 pub check-page-spec : {M : Type 1} → statement M
