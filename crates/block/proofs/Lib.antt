@@ -3,3 +3,4 @@ pub mod Fronts
 pub mod Exactly
 pub mod TriedLaws
 pub mod BitZero
+pub mod KeyFaults

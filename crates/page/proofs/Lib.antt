@@ -2,3 +2,4 @@ pub mod KeyLaws
 pub mod PageLaws
 pub mod Fairs
 pub mod Exactly
+pub mod KeyFaults

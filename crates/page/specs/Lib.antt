@@ -1,3 +1,4 @@
 pub mod Layout
 pub mod Page
 pub mod Sound
+pub mod KeyFaults

@@ -8,3 +8,4 @@ pub mod FirstDemand
 pub mod SecondDemand
 pub mod ThirdDemand
 pub mod FirstRequest
+pub mod SecondRequest

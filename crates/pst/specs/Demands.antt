@@ -1,19 +1,20 @@
 -- The user's three demands, and what the requests of 02 add to them, of the outcomes of the public calls alone. Assumes nothing: these are definitions.
 --
 -- The contract of a call says: what the answer means is the outcome that pst/specs/Outcomes names, and each buffer at exit is the one named there. What holds of every
--- outcome so holds of every call. Proved in pst/proofs/FirstDemand, SecondDemand, ThirdDemand and FirstRequest.
+-- outcome so holds of every call. Proved in pst/proofs/FirstDemand, SecondDemand, ThirdDemand, FirstRequest and SecondRequest.
 use Prim.Native.Nat.{ℕ, _+_, _*_, _≤_}
 use mathlib.Core.Path.{_≡_}
 use mathlib.Core.Bool.{true, false}
-use mathlib.Core.Logic.{_↔_}
+use mathlib.Core.Logic.{_↔_, _⊎_}
 use mathlib.Core.Option.{Option}
 use mathlib.Core.List.{List, [], _∷_, _++_, map}
 use lib.Dec.{leb}
 use lib.ListN.{length}
 use Rattle.le.specs.Bytes.{Bytes}
 use Rattle.refusal.specs.declared.Refusal.{Refusal}
-use Rattle.refusal.specs.declared.Fault.the-variants.{Encoding}
-use Rattle.refusal.specs.Order.{_at_, Rule, rule, AllHold, FirstFault}
+use Rattle.refusal.specs.declared.Fault.the-variants.{Encoding, KeyOrder, KeyRange}
+use Rattle.refusal.specs.declared.Verdict.the-variants.{Refused}
+use Rattle.refusal.specs.Order.{_at_, atEntry, Rule, rule, AllHold, FirstFault}
 use Rattle.keys.specs.declared.Sought.the-variants.{Equal, AtLeast}
 use Rattle.keys.specs.Plain.{Ascending, Missing, Distinct}
 use Rattle.keys.specs.Records.{cleared}
@@ -26,14 +27,17 @@ use Rattle.header.specs.declared.HeaderAnswer.the-variants.{Says}
 use Rattle.header.specs.Header.{headerRules, says}
 use Rattle.header.specs.Sound.{HeaderSound}
 use Rattle.page.specs.declared.Layout.{Layout}
+use Rattle.page.specs.declared.Link.{Link}
 use Rattle.page.specs.Layout.{nbt, bbt, asGiven, compared}
-use Rattle.page.specs.Page.{numberIn, keyIn}
+use Rattle.page.specs.Page.{numberIn, keyIn, pageFits}
+use Rattle.page.specs.KeyFaults.{KeyFaultsTold}
 use Rattle.tree.specs.declared.Listed.{Listed}
 use Rattle.tree.specs.declared.FoundBlock.the-variants as block
-use Rattle.tree.specs.Tree.{rootLevel, treeRules, scan, allRoutes}
+use Rattle.tree.specs.Tree.{root, rootLevel, treeRules, scan, allRoutes}
 use Rattle.tree.specs.Lookup.{path, searchRules, pagesRead}
 use Rattle.tree.specs.Answers.{shown, asNode, asBlock}
 use Rattle.tree.specs.Sound.{TreeSound}
+use Rattle.tree.specs.KeyFaults.{KeyFault}
 use Rattle.tree.specs.Demand3.{AgreeOnPath, AgreeOnRead}
 use Rattle.tree.specs.Listing.{TreeLists}
 use Rattle.block.specs.Block.{trailer64, blockBytes, fronted}
@@ -184,6 +188,26 @@ pub record BitZeroReserved (image : List ℕ) (one other : ℕ) : Type 0 where
 
 abbrev pub FirstRequest : Type 0
 FirstRequest = (image : List ℕ) (one other : ℕ) → cleared one ≡ cleared other → BitZeroReserved image one other
+
+-- Request 2/13: 11 and 21 say which key rule a page breaks, and at which entry. Where a call is refused with either, this holds of the refusal
+abbrev pub KeysTold : (Refusal → Type 0) → Meaning → Type 0
+KeysTold P outcome = (r : Refusal) → outcome ≡ refusalMeans r → (r .fault ≡ KeyOrder) ⊎ (r .fault ≡ KeyRange) → P r
+
+pub record SecondRequest : Type 0 where
+  -- of any page, over any layout: refused with either exactly when it passes 6 to 10 and that entry is the first at fault in that way, accepted exactly when none is; 11 never of the first entry
+  pub pages : (L : Layout) (image : List ℕ) (p : Link) → KeyFaultsTold L image p
+  -- "The root's range is everything": 21 never of a root
+  pub root-never : (L : Layout) (image : List ℕ) (i : ℕ) → pageFits L image (root L image) ≡ Refused (atEntry KeyRange ((root L image) .offset) i) → ⊥
+  -- of every call that reads pages: the refusal is that of a page reached from the root of its tree
+  pub check-nodes : (image : List ℕ) → KeysTold (KeyFault nbt image) (nodesOutcome image)
+  pub check-blocks : (image : List ℕ) → KeysTold (KeyFault bbt image) (blocksOutcome image)
+  pub find-node : (image : List ℕ) (node : ℕ) → KeysTold (KeyFault nbt image) (nodeOutcome image node)
+  pub find-block : (image : List ℕ) (block : ℕ) → KeysTold (KeyFault bbt image) (blockOutcome image block)
+  pub next-node : (image : List ℕ) (from : ℕ) → KeysTold (KeyFault nbt image) (nextNodeOutcome image from)
+  pub next-block : (image : List ℕ) (from : ℕ) → KeysTold (KeyFault bbt image) (nextBlockOutcome image from)
+  pub test-block : (image : List ℕ) (block : ℕ) → KeysTold (KeyFault bbt image) (testOutcome image block)
+  pub read-block : (image : List ℕ) (block : ℕ) (out : List ℕ) → KeysTold (KeyFault bbt image) (readOutcome image block out)
+  pub read-node : (image : List ℕ) (node : ℕ) (out : List ℕ) → KeysTold (λ r. KeyFault nbt image r ⊎ KeyFault bbt image r) (dataOutcome image node out)
 
 -- Beyond the demands: the listings of one tree. The entry or absent, with some count
 pub record FirstFrom (says : Answer (List ℕ) → Meaning) (outcome : Meaning) (entry : Option (List ℕ)) : Type 0 where

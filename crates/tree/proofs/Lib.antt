@@ -9,3 +9,4 @@ pub mod Exactly
 pub mod OffPath
 pub mod InOrder
 pub mod BitZero
+pub mod KeyFaults

@@ -4,3 +4,4 @@ pub mod Answers
 pub mod Listing
 pub mod Demand3
 pub mod Sound
+pub mod KeyFaults

@@ -1,0 +1,16 @@
+-- Document 02, 2/13: refusals 11 and 21 of a tree. Assumes nothing: these are definitions.
+use Prim.Native.Nat.{ℕ}
+use mathlib.Core.List.{List}
+use Rattle.refusal.specs.declared.Fault.the-variants.{KeyOrder, KeyRange}
+use Rattle.refusal.specs.declared.Refusal.{Refusal}
+use Rattle.refusal.specs.Order.{atEntry}
+use Rattle.search.specs.SearchTree.{Reached}
+use Rattle.page.specs.declared.Layout.{Layout}
+use Rattle.page.specs.declared.Link.{Link}
+use Rattle.page.specs.KeyFaults.{BreaksOrder, BreaksRange}
+use Rattle.tree.specs.Tree.{root, rootLevel, pageTree}
+
+-- a page that is reached from the root breaks a key rule, and this refusal says which, where, and at which entry
+pub data KeyFault (L : Layout) (image : List ℕ) : Refusal → Type 0 where
+  order : {l i : ℕ} {p : Link} → Reached (pageTree L image) (rootLevel L image) (root L image) l p → BreaksOrder L image p i → KeyFault L image (atEntry KeyOrder (p .offset) i)
+  range : {l i : ℕ} {p : Link} → Reached (pageTree L image) (rootLevel L image) (root L image) l p → BreaksRange L image p i → KeyFault L image (atEntry KeyRange (p .offset) i)
