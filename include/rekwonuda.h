@@ -12,7 +12,8 @@
  * Every answer but a bare number begins with these three fields:
  *   refusal  0 where the call is answered, else the number of the first fault met (below)
  *   place    the place of that fault: an offset in the image, or 0
- *   more     what else the refusal says: for 17 the length needed, otherwise 0
+ *   more     what else the refusal says: for 11 and 21 the index of the first entry of the page that
+ *            is at fault, counted from 0, for 17 the length needed, otherwise 0
  * A field that an answer does not use is 0. A refused call leaves every byte of a buffer as it was.
  * "Absent" is an ordinary answer and no refusal: `found` is 0 where it is absent, 1 where it is there.
  * All offsets are in bytes and begin at 0.
@@ -36,7 +37,8 @@
  *    8  the number or signature of a page is wrong; the page's offset
  *    9  the checksum of a page differs; the page's offset
  *   10  the counts or the level of a page are wrong; the page's offset
- *   11  the keys of a page do not ascend, or lie outside the page's range; the page's offset
+ *   11  the key of an entry is not above the one before it; the page's offset, and `more` is the
+ *       index of the first entry at fault
  *   12  a block to be tested or read is not in the block tree; 0
  *   13  the offset or size of a block is not allowed; the block's offset
  *   14  the trailer of a block is wrong; the block's offset
@@ -46,6 +48,12 @@
  *   18  the shape of a heap is wrong; 0
  *   19  the number of a heap item is wrong; 0
  *   20  the shape of a property tree is wrong; 0
+ *   21  a key lies outside the range of its page; the page's offset, and `more` is the index of the
+ *       first entry at fault. The root page may hold any key. The page behind an entry of an index
+ *       page may hold those from that entry's key, included, to the next entry's, excluded, and
+ *       behind the last entry up to where the range of the index page ends
+ * Of 11 and 21 the one at the first entry at fault comes, and 11 where both hold of that entry. So
+ * 11 never comes with index 0.
  */
 #ifndef REKWONUDA_H
 #define REKWONUDA_H
@@ -123,16 +131,16 @@ struct rkw_property_answer {
 /* Tests the header and says what stands in it. Refusals 1 to 5. */
 struct rkw_header_answer rkw_header(const uint8_t *image, size_t len);
 
-/* Checks the header and then the whole node tree, or the whole block tree. Refusals 1 to 11. */
+/* Checks the header and then the whole node tree, or the whole block tree. Refusals 1 to 11, and 21. */
 struct rkw_answer rkw_check_nodes(const uint8_t *image, size_t len);
 struct rkw_answer rkw_check_blocks(const uint8_t *image, size_t len);
 
 /* Looks up a node by the low four bytes of its number. The header and every page on the way are
- * checked in full. Refusals 1 to 11. */
+ * checked in full. Refusals 1 to 11, and 21. */
 struct rkw_node_answer rkw_find_node(const uint8_t *image, size_t len, uint64_t node);
 
 /* Looks up a block by its number, bit 0 left out, with the same checks; answers the number as stored.
- * Refusals 1 to 11. */
+ * Refusals 1 to 11, and 21. */
 struct rkw_block_answer rkw_find_block(const uint8_t *image, size_t len, uint64_t block);
 
 /* The first node, or block, whose number is at least `from`, answered as by the lookup. Of a node the
@@ -140,22 +148,22 @@ struct rkw_block_answer rkw_find_block(const uint8_t *image, size_t len, uint64_
  * given, so that one above a block's number is behind it. Going from 0, each time one above the number
  * found, goes through a whole checked tree in order; there is none behind node 0xFFFFFFFF and block
  * 0xFFFFFFFFFFFFFFFF, so end there too. The header and every page read are checked in full; of a tree
- * whose root has level n at most 2n + 1 pages are read. Refusals 1 to 11. */
+ * whose root has level n at most 2n + 1 pages are read. Refusals 1 to 11, and 21. */
 struct rkw_node_answer rkw_next_node(const uint8_t *image, size_t len, uint64_t from);
 struct rkw_block_answer rkw_next_block(const uint8_t *image, size_t len, uint64_t from);
 
-/* Looks up a block and tests its place, trailer and checksum. Refusals 1 to 15. */
+/* Looks up a block and tests its place, trailer and checksum. Refusals 1 to 15, and 21. */
 struct rkw_size_answer rkw_test_block(const uint8_t *image, size_t len, uint64_t block);
 
 /* Tests a block and puts its bytes at the front of `out`: decoded by the header's method, or as they
  * are stored where the block is internal (bit 1, of value 2, of its number). What follows them in
- * `out` stays as it was. No block has more than 8,176 bytes. Refusals 1 to 15, and 17. */
+ * `out` stays as it was. No block has more than 8,176 bytes. Refusals 1 to 15, 17 and 21. */
 struct rkw_length_answer rkw_read_block(const uint8_t *image, size_t len, uint64_t block, uint8_t *out, size_t out_len);
 
 /* Looks up a node and puts its data at the front of `out`: the bytes of its data block, or, where that
  * is internal, of the blocks that it lists, one right behind the other, each tested and decoded. What
  * follows them in `out` stays as it was. The data of a node has at most 8,347,696 bytes; called with
- * out_len 0, the call says in `more` of refusal 17 how many there are. Refusals 1 to 17. */
+ * out_len 0, the call says in `more` of refusal 17 how many there are. Refusals 1 to 17, and 21. */
 struct rkw_data_answer rkw_read_node(const uint8_t *image, size_t len, uint64_t node, uint8_t *out, size_t out_len);
 
 /* Encodes, or decodes, `bytes` in place as the data of that block: method 0 leaves them, 1 is permute,

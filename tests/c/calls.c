@@ -7,10 +7,11 @@
 #include <stdio.h>
 #include <string.h>
 
-enum { IMAGE = 27648, BLOCK = 4, OFFSET = 0x5800, SIZE = 108, ROOM = 128, ITEM = 0x60 };
+enum { IMAGE = 27648, BLOCK = 4, OFFSET = 0x5800, SIZE = 108, ROOM = 128, ITEM = 0x60, LEAF = 0x5600 };
 
 static uint8_t image[IMAGE + 1];
 static uint8_t filled[IMAGE];
+static uint8_t keyed[IMAGE];
 static uint8_t out[SIZE + 4];
 
 /* The heap: three items, at 12, 20 and 36, and their map at 96. */
@@ -158,6 +159,16 @@ static void call_find_property(uint16_t id)
     printf("\n");
 }
 
+/* A copy with another key in an entry of the node tree's first leaf, which is sealed again. */
+static void call_keyed(unsigned entry, uint64_t key)
+{
+    memcpy(keyed, image, IMAGE);
+    put(keyed + LEAF + 32 * entry, 8, key);
+    put(keyed + LEAF + 500, 4, rkw_checksum(keyed + LEAF, 496));
+    verdict("rkw_check_nodes", rkw_check_nodes(keyed, IMAGE));
+    node("rkw_find_node", rkw_find_node(keyed, IMAGE, 0x122));
+}
+
 static int load(const char *name)
 {
     FILE *file = fopen(name, "rb");
@@ -186,6 +197,16 @@ static void call_trees(void)
     block("rkw_next_block", rkw_next_block(image, IMAGE, 0x39));
     block("rkw_next_block", rkw_next_block(image, IMAGE, 0x41));
     block("rkw_next_block", rkw_next_block(image, IMAGE, 0x71));
+}
+
+/* The leaf's 14 keys run from 0x21 to 0x62B, and its range from 0x21 to below 0x64C. */
+static void call_keys(void)
+{
+    call_keyed(3, 0x122);
+    call_keyed(1, 0x20);
+    call_keyed(0, 0x20);
+    call_keyed(13, 0x64C);
+    call_keyed(13, 0x64B);
 }
 
 static void call_blocks(void)
@@ -225,6 +246,7 @@ int main(int count, char **words)
     }
     make_block();
     call_trees();
+    call_keys();
     call_blocks();
     call_heap();
     printf("rkw_checksum: %" PRIu64 "\n", rkw_checksum((const uint8_t *)"\x80", 1));

@@ -1,10 +1,11 @@
 use crate::advice::{advice, meaning, outcome};
+use crate::keys::{self, Keys};
 use crate::outcome::Outcome;
 use crate::place::lies_there;
 use crate::source::Source;
 use crate::users::Users;
 use crate::words::{capital, indented};
-use rekwonuda::{Block, Node, Refusal};
+use rekwonuda::{Block, Node, Refusal, WrongKey};
 use serde_json::{json, Value};
 
 /// The part of the file that a call was about. What is wrong with the header is told by its place, from
@@ -28,19 +29,20 @@ pub struct Account {
     meaning: &'static str,
     lies_there: String,
     advice: &'static str,
-    /// The blocks and nodes that it is about, for JSON.
+    /// The key, the blocks and the nodes that it is about, for JSON.
     about: Vec<(&'static str, Value)>,
 }
 
 impl Account {
-    pub fn new(source: &Source, refusal: Refusal, spot: &Spot) -> Account {
+    pub fn new(source: &Source, refusal: Refusal, spot: &Spot, keys: &mut Keys<'_>) -> Account {
+        let wrong_key = keys.find(&refusal, spot);
         Account {
             outcome: outcome(source, &refusal, spot),
             refusal,
             meaning: meaning(source, &refusal),
-            lies_there: lies_there(source, &refusal, spot),
+            lies_there: lies_there(source, &refusal, spot, wrong_key.as_ref()),
             advice: advice(source, &refusal, spot),
-            about: about(spot),
+            about: about(&refusal, spot, wrong_key.as_ref()),
         }
     }
 
@@ -90,17 +92,23 @@ impl Account {
     }
 }
 
-fn about(spot: &Spot) -> Vec<(&'static str, Value)> {
+fn about(
+    refusal: &Refusal,
+    spot: &Spot,
+    wrong_key: Option<&WrongKey>,
+) -> Vec<(&'static str, Value)> {
+    let mut about = keys::facts(refusal, wrong_key);
     match spot {
-        Spot::Header | Spot::NodeTree | Spot::BlockTree => Vec::new(),
-        Spot::Block(block, users) => vec![
+        Spot::Header | Spot::NodeTree | Spot::BlockTree => {}
+        Spot::Block(block, users) => about.extend([
             ("block", block.id.0.to_string().into()),
             (
                 "nodes",
                 json!(users.first.iter().map(|node| node.0).collect::<Vec<_>>()),
             ),
             ("node_count", users.count.into()),
-        ],
-        Spot::Data(node) | Spot::Heap(node, _) => vec![("node", node.id.0.into())],
+        ]),
+        Spot::Data(node) | Spot::Heap(node, _) => about.push(("node", node.id.0.into())),
     }
+    about
 }

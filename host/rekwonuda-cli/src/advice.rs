@@ -38,6 +38,18 @@ const BAD_BLOCK: &str = "What this block holds cannot be relied on; other blocks
 const BAD_DATA: &str = "What this node holds is lost, wholly or in part; the command `node` still \
     reads the others. Ask for a fresh copy, made while Outlook was closed, or have the sender run \
     Microsoft's scanpst.exe on the file. Do not open it with a reader that repairs silently.";
+const SHUFFLED_PAGE: &str = "By its checksum the page is as it was last written, but its entries were \
+    put out of order, or some of them were written over. Which of them are right cannot be told, so \
+    that none is followed; the command `node` still reads each node whose way does not lead through \
+    this page. Ask for a fresh copy, made while Outlook was closed, or have the sender run Microsoft's \
+    scanpst.exe on the file. Do not open it with a reader that repairs silently.";
+const STALE_PAGE: &str = "By its checksum this is a whole, sound page, but it does not go with those \
+    that lead to it: it is of another place, or of an earlier state of the file, as in a copy made \
+    while Outlook was writing. What hangs below it may be the room of another message by now, so that \
+    it is not followed; the command `node` still reads each node whose way does not lead through this \
+    page. Ask for a fresh copy, made while Outlook was closed, or have the sender run Microsoft's \
+    scanpst.exe on the file. Do not open it with a reader that repairs silently: it may show the bytes \
+    of one message as those of another.";
 const TWO_LEVELS: &str =
     "The data of this node is stored in two levels, as it must be where it has \
     more than 8,347,696 bytes; this reader covers one level. That is no fault of the file.";
@@ -81,6 +93,8 @@ pub fn advice(source: &Source, refusal: &Refusal, spot: &Spot) -> &'static str {
         (Fault::Version, _) if edition(version(source)).is_some() => EDITION_OR_DAMAGE,
         (Fault::DataTree, _) if has_two_levels(source, spot) => TWO_LEVELS,
         (Fault::HeapShape | Fault::HeapItem | Fault::PropertyTree, _) => BAD_PROPERTIES,
+        (Fault::KeyOrder, _) => SHUFFLED_PAGE,
+        (Fault::KeyRange, _) => STALE_PAGE,
         (_, Spot::Data(_)) => BAD_DATA,
         (_, Spot::Block(..)) => BAD_BLOCK,
         _ => NEW_COPY,

@@ -1,4 +1,5 @@
 use crate::account::{Account, Spot};
+use crate::keys::Keys;
 use crate::outcome::{Failure, Outcome};
 use crate::output::Output;
 use crate::progress;
@@ -27,6 +28,7 @@ pub struct Way {
 
 struct Check<'a, 'b> {
     source: &'a Source,
+    keys: Keys<'a>,
     out: &'a mut Output<'b>,
     way: Way,
     /// The name of the present stage.
@@ -44,6 +46,7 @@ pub fn check(source: &Source, way: Way, out: &mut Output<'_>) -> Result<Report, 
     out.begin_list("refusals")?;
     let mut check = Check {
         source,
+        keys: Keys::new(source),
         out,
         way,
         stage: STAGES[0],
@@ -86,7 +89,7 @@ impl Check<'_, '_> {
 
     /// Notes a refusal, and says whether the stage ends here.
     fn refuse(&mut self, refusal: Refusal, spot: &Spot) -> Result<bool, Failure> {
-        let account = Account::new(self.source, refusal, spot);
+        let account = Account::new(self.source, refusal, spot, &mut self.keys);
         let mut facts = account.facts();
         facts["stage"] = self.stage.into();
         self.out.entry(&facts)?;

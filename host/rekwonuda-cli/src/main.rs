@@ -6,6 +6,7 @@ mod advice;
 mod args;
 mod check;
 mod info;
+mod keys;
 mod list;
 mod many;
 mod names;

@@ -1,4 +1,5 @@
 use crate::account::Account;
+use crate::keys::Keys;
 use crate::names;
 use crate::outcome::{Failure, Outcome};
 use crate::source::Source;
@@ -147,7 +148,7 @@ impl<'a> Output<'a> {
         let (outcome, message) = match (result, source) {
             (Ok(outcome), _) => (outcome, None),
             (Err(Failure::Refused(refusal, spot)), Some(source)) => {
-                let account = Account::new(source, refusal, &spot);
+                let account = Account::new(source, refusal, &spot, &mut Keys::new(source));
                 self.refused(&account)?;
                 (account.outcome, None)
             }

@@ -2,25 +2,33 @@
 
 use crate::account::Spot;
 use crate::advice::{edition, version, FIRST_SUMMED};
+use crate::keys;
 use crate::list::kind;
 use crate::source::Source;
 use crate::users::missing;
 use crate::words::{counted, node_type, place, spaced_hex};
 use indicatif::HumanCount;
-use rekwonuda::{Block, Fault, Node, Refusal, LARGEST_BLOCK};
+use rekwonuda::{Block, Fault, Node, Refusal, WrongKey, LARGEST_BLOCK};
 
 const FIRST_ROOM: u64 = 0x4400;
 const PAGE: usize = 512;
 const SECOND_SUMMED: usize = 516;
 
-pub fn lies_there(source: &Source, refusal: &Refusal, spot: &Spot) -> String {
+/// `wrong_key` is the key at fault, of a refusal by a key.
+pub fn lies_there(
+    source: &Source,
+    refusal: &Refusal,
+    spot: &Spot,
+    wrong_key: Option<&WrongKey>,
+) -> String {
     match refusal.number() {
         1 => match source.size {
             Some(size) => format!("the whole file: {}", counted(size, "byte")),
             None => "the whole stream, which was not read to its end".to_string(),
         },
         2..=5 => in_header(source, refusal),
-        6..=11 => in_tree(source, refusal, spot),
+        6 => no_page(source, refusal, spot),
+        7..=11 | 21 => in_tree(source, refusal, spot, wrong_key),
         12..=16 => in_blocks(source, refusal, spot),
         _ => in_heap(spot),
     }
@@ -63,24 +71,34 @@ fn checksum(source: &Source, length: usize, stored: &str) -> String {
     format!("the header's checksum of bytes 8 to {last}: stored {stored}, computed {computed}")
 }
 
-fn in_tree(source: &Source, refusal: &Refusal, spot: &Spot) -> String {
+fn no_page(source: &Source, refusal: &Refusal, spot: &Spot) -> String {
+    let (tree, _) = tree_of(source, spot);
+    let at = place(refusal.place);
+    let why = why_not_there(source, refusal.place, PAGE as u64);
+    format!("{at}: {tree} refers to a page there, but {why}")
+}
+
+fn in_tree(
+    source: &Source,
+    refusal: &Refusal,
+    spot: &Spot,
+    wrong_key: Option<&WrongKey>,
+) -> String {
     let (tree, root) = tree_of(source, spot);
     let at = place(refusal.place);
-    if refusal.fault == Fault::PageOffset {
-        let why = why_not_there(source, refusal.place, PAGE as u64);
-        return format!("{at}: {tree} refers to a page there, but {why}");
-    }
-    let page = if root == Some(refusal.place) {
-        "the root page"
-    } else {
-        "a page"
+    let page = match wrong_key.map(|wrong| wrong.level) {
+        _ if root == Some(refusal.place) => "the root page".to_string(),
+        None => "a page".to_string(),
+        Some(0) => "a leaf page".to_string(),
+        Some(level) => format!("an index page (level {level})"),
     };
     let zeros = zeros_at(source, refusal.place, PAGE);
     let way = match spot {
         Spot::Data(node) => format!(", on the way to {}", data_of(node)),
         _ => String::new(),
     };
-    format!("{at}: {page} of {tree}{way}{zeros}")
+    let entry = keys::text(refusal, wrong_key);
+    format!("{at}: {page} of {tree}{way}{zeros}{entry}")
 }
 
 fn tree_of(source: &Source, spot: &Spot) -> (&'static str, Option<u64>) {

@@ -63,57 +63,58 @@ pub fn header(image: &[u8]) -> HeaderAnswer {
     unsafe { rkw_header(image.as_ptr(), image.len()) }
 }
 
-/// Checks the header and then the whole node tree. Refusals 1 to 11.
+/// Checks the header and then the whole node tree. Refusals 1 to 11, and 21.
 pub fn check_nodes(image: &[u8]) -> Answer {
     // SAFETY: the pointer and the length are those of one slice.
     unsafe { rkw_check_nodes(image.as_ptr(), image.len()) }
 }
 
-/// Checks the header and then the whole block tree. Refusals 1 to 11.
+/// Checks the header and then the whole block tree. Refusals 1 to 11, and 21.
 pub fn check_blocks(image: &[u8]) -> Answer {
     // SAFETY: the pointer and the length are those of one slice.
     unsafe { rkw_check_blocks(image.as_ptr(), image.len()) }
 }
 
-/// Looks up a node by the low four bytes of its number. Refusals 1 to 11.
+/// Looks up a node by the low four bytes of its number. Refusals 1 to 11, and 21.
 pub fn find_node(image: &[u8], node: u64) -> NodeAnswer {
     // SAFETY: the pointer and the length are those of one slice.
     unsafe { rkw_find_node(image.as_ptr(), image.len(), node) }
 }
 
-/// Looks up a block by its number, bit 0 left out. Refusals 1 to 11.
+/// Looks up a block by its number, bit 0 left out. Refusals 1 to 11, and 21.
 pub fn find_block(image: &[u8], block: u64) -> BlockAnswer {
     // SAFETY: the pointer and the length are those of one slice.
     unsafe { rkw_find_block(image.as_ptr(), image.len(), block) }
 }
 
-/// Looks up the first node whose number is at least `from`. Refusals 1 to 11.
+/// Looks up the first node whose number is at least `from`. Refusals 1 to 11, and 21.
 pub fn next_node(image: &[u8], from: u64) -> NodeAnswer {
     // SAFETY: the pointer and the length are those of one slice.
     unsafe { rkw_next_node(image.as_ptr(), image.len(), from) }
 }
 
 /// Looks up the first block whose number, with bit 0 cleared, is at least `from` as given. Refusals 1
-/// to 11.
+/// to 11, and 21.
 pub fn next_block(image: &[u8], from: u64) -> BlockAnswer {
     // SAFETY: the pointer and the length are those of one slice.
     unsafe { rkw_next_block(image.as_ptr(), image.len(), from) }
 }
 
-/// Looks up a block and tests its place, trailer and checksum. Refusals 1 to 15.
+/// Looks up a block and tests its place, trailer and checksum. Refusals 1 to 15, and 21.
 pub fn test_block(image: &[u8], block: u64) -> SizeAnswer {
     // SAFETY: the pointer and the length are those of one slice.
     unsafe { rkw_test_block(image.as_ptr(), image.len(), block) }
 }
 
-/// Tests a block and puts its bytes, decoded, at the front of `out`. Refusals 1 to 15, and 17.
+/// Tests a block and puts its bytes, decoded, at the front of `out`. Refusals 1 to 15, 17
+/// and 21.
 pub fn read_block(image: &[u8], block: u64, out: &mut [u8]) -> LengthAnswer {
     let (start, length) = (out.as_mut_ptr(), out.len());
     // SAFETY: each pointer and its length are those of one slice, and `out` is borrowed for writing alone.
     unsafe { rkw_read_block(image.as_ptr(), image.len(), block, start, length) }
 }
 
-/// Looks up a node and puts its data at the front of `out`. Refusals 1 to 17.
+/// Looks up a node and puts its data at the front of `out`. Refusals 1 to 17, and 21.
 pub fn read_node(image: &[u8], node: u64, out: &mut [u8]) -> DataAnswer {
     let (start, length) = (out.as_mut_ptr(), out.len());
     // SAFETY: each pointer and its length are those of one slice, and `out` is borrowed for writing alone.

@@ -61,8 +61,8 @@ faults! {
     9 PageChecksum,
     /// 10: the counts or the level of a page are wrong.
     10 PageCounts,
-    /// 11: the keys of a page do not ascend, or lie outside the page's range.
-    11 PageKeys,
+    /// 11: the key of an entry of a page is not above the one before it.
+    11 KeyOrder,
     /// 12: a block to be tested or read is not in the block tree.
     12 BlockUnlisted,
     /// 13: the offset or size of a block is not allowed.
@@ -81,4 +81,6 @@ faults! {
     19 HeapItem,
     /// 20: the shape of a property tree is wrong.
     20 PropertyTree,
+    /// 21: a key lies outside the range of its page.
+    21 KeyRange,
 }

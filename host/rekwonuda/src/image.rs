@@ -49,7 +49,7 @@ impl<'a> Image<'a> {
     ///
     /// # Errors
     ///
-    /// Refusals 1 to 11.
+    /// Refusals 1 to 11, and 21.
     pub fn check_nodes(&self) -> Result<(), Refusal> {
         answered(sys::check_nodes(self.0)).map(drop)
     }
@@ -58,7 +58,7 @@ impl<'a> Image<'a> {
     ///
     /// # Errors
     ///
-    /// Refusals 1 to 11.
+    /// Refusals 1 to 11, and 21.
     pub fn check_blocks(&self) -> Result<(), Refusal> {
         answered(sys::check_blocks(self.0)).map(drop)
     }
@@ -67,7 +67,7 @@ impl<'a> Image<'a> {
     ///
     /// # Errors
     ///
-    /// Refusals 1 to 11, of the header and of the pages on the way.
+    /// Refusals 1 to 11, and 21, of the header and of the pages on the way.
     pub fn find_node(&self, node: NodeId) -> Result<Lookup<Node>, Refusal> {
         answered(sys::find_node(self.0, node.0.into())).map(|answer| Lookup::<Node>::of(&answer))
     }
@@ -77,7 +77,7 @@ impl<'a> Image<'a> {
     ///
     /// # Errors
     ///
-    /// Refusals 1 to 11, of the header and of the pages on the way.
+    /// Refusals 1 to 11, and 21, of the header and of the pages on the way.
     pub fn find_block(&self, block: BlockId) -> Result<Lookup<Block>, Refusal> {
         answered(sys::find_block(self.0, block.0)).map(|answer| Lookup::<Block>::of(&answer))
     }
@@ -86,7 +86,7 @@ impl<'a> Image<'a> {
     ///
     /// # Errors
     ///
-    /// Refusals 1 to 11, of the header and of the pages on the way.
+    /// Refusals 1 to 11, and 21, of the header and of the pages on the way.
     pub fn next_node(&self, from: NodeId) -> Result<Lookup<Node>, Refusal> {
         answered(sys::next_node(self.0, from.0.into())).map(|answer| Lookup::<Node>::of(&answer))
     }
@@ -96,7 +96,7 @@ impl<'a> Image<'a> {
     ///
     /// # Errors
     ///
-    /// Refusals 1 to 11, of the header and of the pages on the way.
+    /// Refusals 1 to 11, and 21, of the header and of the pages on the way.
     pub fn next_block(&self, from: BlockId) -> Result<Lookup<Block>, Refusal> {
         answered(sys::next_block(self.0, from.0)).map(|answer| Lookup::<Block>::of(&answer))
     }
@@ -115,7 +115,7 @@ impl<'a> Image<'a> {
     ///
     /// # Errors
     ///
-    /// Refusals 1 to 15; 12 where the block is not listed.
+    /// Refusals 1 to 15, and 21; 12 where the block is not listed.
     pub fn test_block(&self, block: BlockId) -> Result<usize, Refusal> {
         answered(sys::test_block(self.0, block.0)).map(|answer| answer.size as usize)
     }
@@ -126,7 +126,7 @@ impl<'a> Image<'a> {
     ///
     /// # Errors
     ///
-    /// Refusals 1 to 15, and 17 where `out` is too short. `out` is then as it was.
+    /// Refusals 1 to 15 and 21, and 17 where `out` is too short. `out` is then as it was.
     pub fn read_block(&self, block: BlockId, out: &mut [u8]) -> Result<usize, Refusal> {
         answered(sys::read_block(self.0, block.0, out)).map(|answer| answer.length as usize)
     }
@@ -135,7 +135,7 @@ impl<'a> Image<'a> {
     ///
     /// # Errors
     ///
-    /// Refusals 1 to 15.
+    /// Refusals 1 to 15, and 21.
     pub fn block_data(&self, block: BlockId) -> Result<Vec<u8>, Refusal> {
         let mut data = vec![0; LARGEST_BLOCK];
         let length = self.read_block(block, &mut data)?;
@@ -151,7 +151,7 @@ impl<'a> Image<'a> {
     ///
     /// # Errors
     ///
-    /// Refusals 1 to 16.
+    /// Refusals 1 to 16, and 21.
     pub fn test_node(&self, node: NodeId) -> Result<Option<usize>, Refusal> {
         match self.read_node(node, &mut []) {
             Err(refusal) if refusal.fault == Fault::ShortBuffer => Ok(Some(refusal.more as usize)),
@@ -164,7 +164,7 @@ impl<'a> Image<'a> {
     ///
     /// # Errors
     ///
-    /// Refusals 1 to 16, and 17 where `out` is too short. `out` is then as it was.
+    /// Refusals 1 to 16 and 21, and 17 where `out` is too short. `out` is then as it was.
     pub fn read_node(&self, node: NodeId, out: &mut [u8]) -> Result<Option<usize>, Refusal> {
         let answer = answered(sys::read_node(self.0, node.0.into(), out))?;
         Ok((answer.found == 1).then_some(answer.length as usize))
@@ -174,7 +174,7 @@ impl<'a> Image<'a> {
     ///
     /// # Errors
     ///
-    /// Refusals 1 to 16.
+    /// Refusals 1 to 16, and 21.
     pub fn node_data(&self, node: NodeId) -> Result<Option<Vec<u8>>, Refusal> {
         let Some(length) = self.test_node(node)? else {
             return Ok(None);
@@ -204,7 +204,8 @@ impl<'a> Image<'a> {
     ///
     /// # Errors
     ///
-    /// Of an internal block alone: refusals 1 to 15, and 16 where it is no data tree of one level.
+    /// Of an internal block alone: refusals 1 to 15 and 21, and 16 where it is no data tree of one
+    /// level.
     pub fn data_blocks(&self, data: BlockId) -> Result<Vec<BlockId>, Refusal> {
         if !data.is_internal() {
             return Ok(vec![data]);

@@ -22,8 +22,9 @@
 //! Every answer and every refusal is that of the proved library `rkw`, which is called through crate
 //! `rekwonuda-sys`. This crate gives its calls Rust's types. Code of its own, tested and not proved, are
 //! the words of a refusal and what is put together from several proved answers: the iterators
-//! [`Image::nodes`], [`Image::blocks`] and [`Heap::properties`], the buffers of [`Image::block_data`]
-//! and [`Image::node_data`], and [`Image::data_blocks`], which reads a list of blocks by itself.
+//! [`Image::nodes`], [`Image::blocks`] and [`Heap::properties`], and the buffers of [`Image::block_data`]
+//! and [`Image::node_data`]. Two calls read bytes of the image by themselves: [`Image::data_blocks`] a
+//! list of blocks, [`Image::wrong_node_key`] and its like the pages of a tree.
 #![deny(missing_docs)]
 #![forbid(unsafe_code)]
 #![warn(
@@ -40,6 +41,7 @@ mod image;
 mod list;
 mod method;
 mod refusal;
+mod wrong_key;
 
 pub use entry::{Block, Header, Lookup, Node, PageReference};
 pub use fault::Fault;
@@ -49,6 +51,7 @@ pub use image::Image;
 pub use list::{Blocks, Nodes};
 pub use method::Method;
 pub use refusal::Refusal;
+pub use wrong_key::{Key, WrongKey, WrongKeys};
 
 use rekwonuda_sys as sys;
 

@@ -23,7 +23,8 @@ pub struct Refusal {
     pub fault: Fault,
     /// Where: an offset in the image, or 0.
     pub place: u64,
-    /// For [`Fault::ShortBuffer`] the length needed, otherwise 0.
+    /// For [`Fault::ShortBuffer`] the length needed, for [`Fault::KeyOrder`] and [`Fault::KeyRange`] the
+    /// index of the first entry at fault, from 0, otherwise 0.
     pub more: u64,
 }
 
@@ -50,16 +51,6 @@ impl Refusal {
     #[must_use]
     pub fn meaning(&self) -> &'static str {
         match self.fault {
-            Fault::PageOffset => "a reference names a place where no page can stand",
-            Fault::PageKind => "what stands there is not a page of this tree",
-            Fault::PageNumber => {
-                "the number or signature of a page is wrong: another page stands there"
-            }
-            Fault::PageChecksum => {
-                "the checksum of a page differs: its bytes are not those that were written"
-            }
-            Fault::PageCounts => "the counts or the level of a page are wrong",
-            Fault::PageKeys => "the keys of a page do not ascend, or lie outside the page's range",
             Fault::BlockUnlisted => "a block that is referred to is not in the block tree",
             Fault::BlockOffset => "a block is listed with an offset or size that no block can have",
             Fault::BlockTrailer => "the trailer of a block is wrong: something else stands there",
@@ -71,6 +62,28 @@ impl Refusal {
             Fault::HeapShape => "the shape of a heap is wrong",
             Fault::HeapItem => "a number names no item of the heap",
             Fault::PropertyTree => "the shape of a property tree is wrong",
+            _ => self.meaning_in_tree(),
+        }
+    }
+
+    fn meaning_in_tree(&self) -> &'static str {
+        match self.fault {
+            Fault::PageOffset => "a reference names a place where no page can stand",
+            Fault::PageKind => "what stands there is not a page of this tree",
+            Fault::PageNumber => {
+                "the number or signature of a page is wrong: another page stands there"
+            }
+            Fault::PageChecksum => {
+                "the checksum of a page differs: its bytes are not those that were written"
+            }
+            Fault::PageCounts => "the counts or the level of a page are wrong",
+            Fault::KeyOrder => {
+                "an entry's key is not above the one before it, as in a page that was shuffled or \
+                 overwritten"
+            }
+            Fault::KeyRange => {
+                "a key lies outside its page's range, as in a stale page: one of another place or time"
+            }
             _ => self.meaning_in_header(),
         }
     }
@@ -107,14 +120,17 @@ impl Refusal {
 
 impl fmt::Display for Refusal {
     fn fmt(&self, out: &mut fmt::Formatter<'_>) -> fmt::Result {
+        let Self { place, more, .. } = self;
         write!(out, "refusal {}: {}", self.number(), self.meaning())?;
-        if self.fault == Fault::ShortBuffer {
-            write!(out, "; {} bytes are needed", self.more)?;
+        match self.fault {
+            Fault::ShortBuffer => write!(out, "; {more} bytes are needed"),
+            Fault::KeyOrder | Fault::KeyRange => write!(
+                out,
+                "; entry {more} (counted from 0) of the page at {place:#x} ({place})"
+            ),
+            _ if self.has_place() => write!(out, "; at {place:#x} ({place})"),
+            _ => Ok(()),
         }
-        if self.has_place() {
-            write!(out, "; at {place:#x} ({place})", place = self.place)?;
-        }
-        Ok(())
     }
 }
 

@@ -248,6 +248,8 @@ fn refusals_say_what_is_wrong_and_where() {
         "refusal 2: the file does not begin with the mark of a .pst file; at 0x0 (0)"
     );
     assert_eq!(said(5, 0, 0), "refusal 5: the encoding method is over 2");
+    assert_eq!(said(11, 0x4E00, 3), "refusal 11: an entry's key is not above the one before it, as in a page that was shuffled or overwritten; entry 3 (counted from 0) of the page at 0x4e00 (19968)");
+    assert_eq!(said(21, 0x4E00, 0), "refusal 21: a key lies outside its page's range, as in a stale page: one of another place or time; entry 0 (counted from 0) of the page at 0x4e00 (19968)");
     assert_eq!(
         said(99, 1, 0),
         "refusal 99: a fault without a name; at 0x1 (1)"
@@ -261,7 +263,7 @@ fn faults_are_those_of_the_proved_library() {
     let (names, _) = behind.split_once('}').unwrap();
     let names: Vec<&str> = names.split(',').map(str::trim).collect();
     let (last, names) = names.split_last().unwrap();
-    assert_eq!((*last, names.len()), ("", 20));
+    assert_eq!((*last, names.len()), ("", 21));
     for (name, number) in names.iter().zip(1..) {
         let fault = Fault::from(number);
         let refusal = Refusal {
@@ -273,7 +275,7 @@ fn faults_are_those_of_the_proved_library() {
         assert_eq!(fault.number(), number);
         assert_ne!(refusal.meaning(), "a fault without a name");
     }
-    for number in [0, 21, u64::MAX] {
+    for number in [0, 22, u64::MAX] {
         assert_eq!(Fault::from(number).number(), number);
     }
 }

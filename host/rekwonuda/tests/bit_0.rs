@@ -66,5 +66,5 @@ fn each_block_is_listed_once() {
 fn two_entries_that_differ_in_the_bit_alone_are_equal() {
     let built = twins();
     let refusal = Image::new(&built.image).check_blocks().unwrap_err();
-    assert_eq!(refusal.fault, Fault::PageKeys);
+    assert_eq!(refusal.fault, Fault::KeyOrder);
 }

@@ -89,6 +89,9 @@ fn agrees(run: &Run, image: &[u8], expected: Result<(), Refusal>) {
             assert_eq!(told["number"], refusal.number);
             assert_eq!(told["place"], refusal.place.to_string());
             assert_eq!(told["more"], refusal.more.to_string());
+            let is_by_key = [11, 21].contains(&refusal.number);
+            assert_eq!(told["entry"].as_u64(), is_by_key.then_some(refusal.more));
+            assert_eq!(told["range_from"].is_string(), is_by_key, "{answer}");
         }
     }
 }

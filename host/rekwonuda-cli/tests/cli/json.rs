@@ -3,7 +3,7 @@
 use crate::images::{sample, sound};
 use crate::page::{self, Shapes};
 use crate::runs::{command, file, folder, office, repository, run, run_in, words, Run};
-use crate::spoilt::changed;
+use crate::spoilt::{changed, office_with_keys, NODE_LEAVES};
 use serde_json::{json, Value};
 use std::ffi::OsStr;
 use std::fs;
@@ -44,6 +44,11 @@ fn answers_have_the_shape_of_the_page() {
     }
     let cut = &built.image[..built.image.len() - 2000];
     hold_commands(&shapes, &file("json_cut.pst", cut), &built.node_numbers());
+    for (at, key) in [0x21, 0x20_0124].into_iter().enumerate() {
+        let image = office_with_keys(NODE_LEAVES[0], 32, &[(14, key)]);
+        let path = file(&format!("json_key_{at}.pst"), &image);
+        hold_commands(&shapes, &path, &[0x21, 0x0020_0284]);
+    }
     hold_failures(&shapes);
     hold_names(&shapes);
     shapes.all_were_met();

@@ -5,6 +5,7 @@ mod damaged;
 #[path = "../../../rekwonuda/tests/images/mod.rs"]
 mod images;
 mod json;
+mod keys;
 mod lists;
 mod many;
 mod node;

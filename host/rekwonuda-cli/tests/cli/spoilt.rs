@@ -1,10 +1,29 @@
 //! Images with one thing wrong.
 
 use crate::images::sound;
+use crate::runs::office;
 use model::build::seal::{seal_block, seal_header, seal_page};
 use model::build::{Built, PlacedBlock};
 use model::page::Tree;
 use model::Node;
+use std::fs;
+
+/// Pages of samples/office.pst. Each of its trees is a root with two leaves.
+pub const NODE_ROOT: usize = 0x8A00;
+pub const NODE_LEAVES: [usize; 2] = [0x8600, 0x8800];
+pub const BLOCK_LEAVES: [usize; 2] = [0x8000, 0x8200];
+
+/// The sample with other keys in some entries of a page, whose entries have that size; the page is
+/// sealed again.
+pub fn office_with_keys(page: usize, size: usize, keys: &[(usize, u64)]) -> Vec<u8> {
+    let mut image = fs::read(office()).expect("the sample can be read");
+    for (entry, key) in keys {
+        let at = page + entry * size;
+        image[at..at + 8].copy_from_slice(&key.to_le_bytes());
+    }
+    seal_page(&mut image, page);
+    image
+}
 
 /// A sound image with one byte changed, and the header's checksums put right again.
 pub fn sealed(at: usize, byte: u8) -> Vec<u8> {
