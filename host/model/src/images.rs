@@ -34,8 +34,9 @@ const MOST_ASKED: usize = 6;
 /// The image of that depth in which two keys of an index page are equal without bit 0.
 const TWIN_KEYS: &str = "permute-level-2";
 
-/// Refusal, kind of damage, sealed, and a seed by which the one leads to the other. The child that 12
-/// stands for is listed with bit 0 the other way, so that it is read all the same.
+/// Refusal, kind of damage, sealed, and a seed by which the one leads to the other. The low key is out
+/// of range, which is 21. The child that 12 stands for is listed with bit 0 the other way, so that it is
+/// read all the same.
 const DAMAGED: &[(u64, Damage, bool, u64)] = &[
     (2, Damage::Magic, true, 0),
     (2, Damage::ClientMagic, true, 0),

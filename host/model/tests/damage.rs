@@ -61,9 +61,10 @@ fn keys() {
     assert_eq!(checked_blocks(Damage::KeyTwin), [11].into());
     assert_eq!(checked_blocks(Damage::KeyBit0), [0].into());
     assert_eq!(checked_blocks(Damage::KeyAtLow), [0].into());
-    assert_eq!(checked_blocks(Damage::KeyAtEnd), [11].into());
-    // In the node tree a key next to another is a key like any other.
-    assert_eq!(checked(Damage::KeyTwin), [(0, 0), (0, 11), (11, 0)].into());
+    assert_eq!(checked_blocks(Damage::KeyAtEnd), [21].into());
+    // In the node tree a key next to another is a key like any other, but one of them may have left
+    // its page's range, or a child's key the range between the two.
+    assert_eq!(checked(Damage::KeyTwin), [(0, 0), (0, 11), (21, 0)].into());
 }
 
 #[test]
