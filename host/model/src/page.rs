@@ -10,7 +10,7 @@ pub const FIRST_OFFSET: u64 = 0x4400;
 pub const STEP: u64 = 64;
 pub const MOST_LEVEL: u8 = 7;
 
-#[derive(Clone, Copy, PartialEq, Eq, Debug)]
+#[derive(Clone, Copy, PartialEq, Eq, PartialOrd, Ord, Debug)]
 pub enum Tree {
     Nodes,
     Blocks,
