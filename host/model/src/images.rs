@@ -1,7 +1,9 @@
 //! A choice of small images, the same each time: some of each method and depth, damaged ones that
-//! together reach every refusal, and those that turn on bit 0 of a block's number.
+//! together reach every refusal, those that turn on bit 0 of a block's number, and those in which keys
+//! are out of order or out of range.
 
 mod bit_0;
+mod keys;
 
 use crate::build::heaps::PlacedHeap;
 use crate::build::seal::seal_block;
@@ -84,6 +86,7 @@ pub fn images() -> Vec<Image> {
             .map(|&(number, damage, seed)| damaged_heap(number, damage, seed)),
     );
     images.extend(bit_0::images());
+    images.extend(keys::images());
     images
 }
 

@@ -1,5 +1,8 @@
 //! Which key rule a page breaks, and at which entry: 11 is order, 21 is range.
 
+use model::build::keys::{
+    below, equal, exchanged, index_last, order_first, range_first, shuffled, unsplit,
+};
 use model::build::seal::seal_page;
 use model::build::{build, Built, PlacedPage, Plan};
 use model::page::{Page, Range, Sought, Tree};
@@ -475,4 +478,64 @@ fn range_in_every_call() {
             telling_page(tree, role).assert_range();
         }
     }
+}
+
+/// The page of those keys is refused so, and the other tree is accepted.
+fn assert_image(built: &Built, tree: Tree, keys: &[u64], number: u64, at: usize) {
+    let is_it = |page: &&PlacedPage| page.tree == tree && page.keys == keys;
+    let page = built.pages.iter().find(is_it).expect("that page");
+    let refusal = Refusal {
+        number,
+        place: page.offset as u64,
+        more: at as u64,
+    };
+    let [nodes, blocks] = match tree {
+        Tree::Nodes => [Err(refusal), Ok(())],
+        Tree::Blocks => [Ok(()), Err(refusal)],
+    };
+    assert_eq!(check_nodes(&built.image), nodes);
+    assert_eq!(check_blocks(&built.image), blocks);
+}
+
+#[test]
+fn chosen_images_of_blocks() {
+    let cases: [(Built, &[u64], u64, usize); 4] = [
+        (shuffled(), &[0x108, 0x10C, 0x114, 0x110], 11, 3),
+        (equal(), &[0x114, 0x114, 0x11B], 11, 1),
+        (range_first(), &[0x108, 0x10C, 0x118, 0x118], 21, 2),
+        (below(), &[0x108, 0x100, 0x110, 0x114], 11, 1),
+    ];
+    for (built, keys, number, at) in cases {
+        assert_image(&built, Tree::Blocks, keys, number, at);
+    }
+}
+
+#[test]
+fn chosen_images_of_nodes() {
+    let before_its_split = [0x8062, 0x8082, 0x80A2, 0x80C2, 0x80E2, 0x8102];
+    let cases: [(Built, &[u64], u64, usize); 3] = [
+        (unsplit(), &before_its_split, 21, 4),
+        (order_first(), &[0x8062, 0x8062, 0x80A2, 0x80E2], 11, 1),
+        (index_last(), &[0x8042, 0x8082, 0x8102], 21, 2),
+    ];
+    for (built, keys, number, at) in cases {
+        assert_image(&built, Tree::Nodes, keys, number, at);
+    }
+}
+
+/// Each of the two leaves is refused at its first key, where the other's numbers are sought.
+#[test]
+fn leaves_in_the_place_of_each_other() {
+    let built = exchanged();
+    assert_image(&built, Tree::Blocks, &[0x108, 0x10C, 0x110, 0x114], 21, 0);
+    let [left, right] = [0x4B00, 0x4D00].map(|place| Refusal::key_range(place, 0));
+    for number in [0x100, 0x104] {
+        assert_eq!(test_block(&built.image, number), Err(right));
+    }
+    for number in [0x108, 0x10C, 0x110, 0x114] {
+        assert_eq!(test_block(&built.image, number), Err(left));
+    }
+    assert_eq!(next_block(&built.image, 0), Err(right));
+    assert_eq!(next_block(&built.image, 0x109), Err(left));
+    assert_eq!(test_block(&built.image, 0x118), Ok(60));
 }
