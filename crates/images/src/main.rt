@@ -48,7 +48,7 @@ fn header_images() {
     image_lines(b"17-refusal-5-method.img");
 }
 
-// Refusals 6 to 11.
+// Refusals 6 to 11; in 27 a key lies outside the page's range, which is 21.
 fn page_images() {
     image_lines(b"18-refusal-6-rootoffset.img");
     image_lines(b"19-refusal-6-childoffset.img");
@@ -93,10 +93,23 @@ fn bit_zero_images() {
     image_lines(b"50-bit0-page-number.img");
 }
 
+// Request 2/13: keys out of order, 11, and outside the page's range, 21.
+fn key_images() {
+    image_lines(b"51-keys-shuffled.img");
+    image_lines(b"52-keys-equal.img");
+    image_lines(b"53-keys-exchanged.img");
+    image_lines(b"54-keys-unsplit.img");
+    image_lines(b"55-keys-range-first.img");
+    image_lines(b"56-keys-order-first.img");
+    image_lines(b"57-keys-below.img");
+    image_lines(b"58-keys-index-last.img");
+}
+
 fn main() {
     valid_images();
     header_images();
     page_images();
     data_images();
     bit_zero_images();
+    key_images();
 }

@@ -88,15 +88,15 @@ impl Call {
     pub fn refusals(self) -> Vec<u64> {
         match self {
             Call::Header => (1..=5).collect(),
-            Call::TestBlock => (1..=15).collect(),
-            Call::ReadBlock => (1..=15).chain([17]).collect(),
-            Call::ReadNode => (1..=17).collect(),
+            Call::TestBlock => (1..=15).chain([21]).collect(),
+            Call::ReadBlock => (1..=15).chain([17, 21]).collect(),
+            Call::ReadNode => (1..=17).chain([21]).collect(),
             Call::Encode | Call::Decode => vec![5],
             Call::TestHeap => vec![18],
             Call::TestItem | Call::Item => vec![18, 19],
             Call::FindProperty => vec![18, 19, 20],
             Call::Checksum | Call::Signature | Call::Room => Vec::new(),
-            _ => (1..=11).collect(),
+            _ => (1..=11).chain([21]).collect(),
         }
     }
 }

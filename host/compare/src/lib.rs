@@ -3,6 +3,7 @@
 
 pub mod answers;
 pub mod ask;
+pub mod keys;
 pub mod run;
 pub mod subject;
 pub mod tally;

@@ -61,7 +61,7 @@ impl Run {
             let question = question(subject, &mut random);
             let answers = ask(&question, &lent, &subject.bytes, &mut self.buffers);
             self.calls += 1;
-            self.tally.add(question.call, &answers);
+            self.tally.add(question.call, &answers, &subject.bytes);
             let mut fault = fault(&answers, self.buffers.same(), lent == subject.bytes);
             if fault.is_none() && question.call.seeks_block() && random.one_in(3) {
                 fault = self.bit_0_fault(&question, &lent);
@@ -170,7 +170,10 @@ fn out_length(call: Call, number: u64, subject: &Subject, random: &mut Random) -
         Call::Encode | Call::Decode => return subject.bytes.len(),
         _ => return 0,
     };
-    let needed = answer.map_or_else(|refusal| refusal.more as usize, |_| 0);
+    let needed = match answer {
+        Err(refusal) if refusal.number == 17 => refusal.more as usize,
+        _ => 0,
+    };
     match random.below(6) {
         0 => 0,
         1 => needed.saturating_sub(1),

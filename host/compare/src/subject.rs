@@ -6,7 +6,7 @@ use model::build::heaps::{bare_heap, empty_items, property_context, HeapPlan, Pl
 use model::build::seal::seal_header;
 use model::build::{build, build_small, build_small_loose, Built, Plan, MOST_SMALL};
 use model::damage::heap::{spoil_heap, ALL};
-use model::damage::{spoil, spoil_again, Damage, BLOCK, HEADER, PAGE, WHOLE};
+use model::damage::{spoil, spoil_again, Damage, BLOCK, HEADER, KEYS, PAGE, WHOLE};
 use model::random::Random;
 
 pub struct Subject {
@@ -43,7 +43,8 @@ impl Subject {
 pub fn subjects(seed: u64) -> Vec<Subject> {
     let mut random = Random::new(seed);
     match random.below(64) {
-        0..=33 => built_images(&mut random),
+        0..=31 => built_images(&mut random),
+        32..=33 => wide_images(&mut random),
         34..=37 => vec![random_image(&mut random)],
         38..=53 => heaps(&mut random),
         54..=55 => vec![random_heap(&mut random)],
@@ -63,23 +64,48 @@ fn built_images(random: &mut Random) -> Vec<Subject> {
         blocks: built.block_numbers(),
         ..Subject::new("built".into(), built.image.clone(), ON_IMAGE)
     };
-    let damaged: Vec<_> = (0..12).map(|_| damaged_image(&built, random)).collect();
+    let damaged = (0..12).map(|_| {
+        let first = damage(random);
+        damaged_image(&built, first, random)
+    });
     std::iter::once(whole).chain(damaged).collect()
+}
+
+/// Keys at fault in images that have more index pages than small ones, and more entries in each.
+fn wide_images(random: &mut Random) -> Vec<Subject> {
+    let plan = Plan {
+        method: random.below(3) as u8,
+        node_level: random.between(2, 3) as u8,
+        block_level: random.between(2, 3) as u8,
+        block_nodes: random.between(12, 36),
+        most_size: 90,
+        wider: 3,
+        loose_bit_0: random.one_in(2),
+        ..Plan::default()
+    };
+    let built = build(random.number(), &plan);
+    let damaged = (0..12).map(|_| {
+        let damage = random.pick(KEYS).copied().unwrap_or(KEYS[0]);
+        damaged_image(&built, (damage, true), random)
+    });
+    damaged.collect()
 }
 
 fn damage(random: &mut Random) -> (Damage, bool) {
     let group = match random.below(16) {
         0 => WHOLE,
         1..=3 => HEADER,
-        4..=9 => PAGE,
+        4..=8 => PAGE,
+        9..=10 => KEYS,
         _ => BLOCK,
     };
     let damage = random.pick(group).copied().unwrap_or(Damage::AnyByte);
     (damage, !random.one_in(4))
 }
 
-fn damaged_image(built: &Built, random: &mut Random) -> Subject {
-    let (first, sealed) = damage(random);
+/// One damage, and now and then another.
+fn damaged_image(built: &Built, first: (Damage, bool), random: &mut Random) -> Subject {
+    let (first, sealed) = first;
     let mut name = format!("{first:?} sealed {sealed}");
     let mut spoilt = spoil(built, first, sealed, random);
     if random.one_in(4) {

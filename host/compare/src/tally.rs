@@ -1,10 +1,13 @@
 //! Counts of what the calls answered.
 
 use crate::ask::{Answers, Call};
+use crate::keys::KeyFault;
+use model::page::Tree;
+use model::Refusal;
 use std::collections::BTreeMap;
 use std::fmt;
 
-pub const MOST_REFUSAL: u64 = 20;
+pub const MOST_REFUSAL: u64 = 21;
 
 #[derive(Default, Clone)]
 pub struct Counts {
@@ -16,16 +19,32 @@ pub struct Counts {
 #[derive(Default, Clone)]
 pub struct Tally {
     pub calls: BTreeMap<Call, Counts>,
+    pub keys: BTreeMap<KeyFault, u64>,
 }
 
 impl Tally {
-    pub fn add(&mut self, call: Call, answers: &Answers) {
+    /// Adds the answers to a call on those bytes.
+    pub fn add(&mut self, call: Call, answers: &Answers, bytes: &[u8]) {
+        self.add_keys(answers, bytes);
         let counts = self.calls.entry(call).or_default();
         match *answers.model {
             [refusal, _, _, ..] if refusal > 0 => *counts.refused.entry(refusal).or_default() += 1,
             [_, _, _, 0, ..] if call.may_be_absent() => counts.absent += 1,
             _ => counts.answered += 1,
         }
+    }
+
+    fn add_keys(&mut self, answers: &Answers, bytes: &[u8]) {
+        let &[number @ (11 | 21), place, more, ..] = &answers.model[..] else {
+            return;
+        };
+        let refusal = Refusal {
+            number,
+            place,
+            more,
+        };
+        let fault = KeyFault::of(bytes, refusal).expect("a page that is refused so");
+        *self.keys.entry(fault).or_default() += 1;
     }
 
     pub fn refusals(&self, number: u64) -> u64 {
@@ -46,6 +65,12 @@ impl Tally {
                 .collect::<Vec<_>>()
         };
         self.calls.iter().flat_map(missing).collect()
+    }
+
+    /// The faults of keys that can occur and never came.
+    pub fn keys_not_reached(&self) -> Vec<KeyFault> {
+        let never = |fault: &KeyFault| !self.keys.contains_key(fault);
+        KeyFault::all_that_can_occur().filter(never).collect()
     }
 }
 
@@ -72,6 +97,23 @@ impl fmt::Display for Tally {
         writeln!(f, "\nrefusal     calls")?;
         for number in 1..=MOST_REFUSAL {
             writeln!(f, "{number:>7} {:>9}", self.refusals(number))?;
+        }
+        self.write_keys(f)
+    }
+}
+
+impl Tally {
+    fn write_keys(&self, f: &mut fmt::Formatter) -> fmt::Result {
+        writeln!(f, "\n{:<39} {:>8}", "keys at fault", "calls")?;
+        for (fault, count) in &self.keys {
+            let tree = match fault.tree {
+                Tree::Nodes => "node",
+                Tree::Blocks => "block",
+            };
+            let role = format!("{:?}", fault.role).to_lowercase();
+            let page = format!("{tree} tree, {role}");
+            let fault = fault.to_string();
+            writeln!(f, "{page:<17} {fault:<21} {count:>8}")?;
         }
         Ok(())
     }

@@ -1,5 +1,6 @@
-//! 200,000 calls over built, damaged and random bytes: both answer alike, and every refusal comes up
-//! in every call that can give it.
+//! 200,000 calls over built, damaged and random bytes: both answer alike, every refusal comes up in
+//! every call that can give it, and keys at fault in every sort of page, at every sort of entry, with
+//! and without a fault of the other rule.
 
 use compare::run::Run;
 use compare::tally::MOST_REFUSAL;
@@ -27,4 +28,6 @@ fn differential() {
         );
     }
     assert_eq!(run.tally.not_reached(), []);
+    assert_eq!(run.tally.keys_not_reached(), []);
+    assert!(run.tally.keys.keys().all(|fault| fault.can_occur()));
 }

@@ -1,7 +1,9 @@
 //! A choice of small images, the same each time: some of each method and depth, damaged ones that
-//! together reach every refusal, and those that turn on bit 0 of a block's number.
+//! together reach every refusal, those that turn on bit 0 of a block's number, and those in which keys
+//! are out of order or out of range.
 
 mod bit_0;
+mod keys;
 
 use crate::build::heaps::PlacedHeap;
 use crate::build::seal::seal_block;
@@ -34,8 +36,9 @@ const MOST_ASKED: usize = 6;
 /// The image of that depth in which two keys of an index page are equal without bit 0.
 const TWIN_KEYS: &str = "permute-level-2";
 
-/// Refusal, kind of damage, sealed, and a seed by which the one leads to the other. The child that 12
-/// stands for is listed with bit 0 the other way, so that it is read all the same.
+/// Refusal, kind of damage, sealed, and a seed by which the one leads to the other. The low key is out
+/// of range, which is 21. The child that 12 stands for is listed with bit 0 the other way, so that it is
+/// read all the same.
 const DAMAGED: &[(u64, Damage, bool, u64)] = &[
     (2, Damage::Magic, true, 0),
     (2, Damage::ClientMagic, true, 0),
@@ -83,6 +86,7 @@ pub fn images() -> Vec<Image> {
             .map(|&(number, damage, seed)| damaged_heap(number, damage, seed)),
     );
     images.extend(bit_0::images());
+    images.extend(keys::images());
     images
 }
 

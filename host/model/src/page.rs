@@ -1,16 +1,16 @@
-//! One page and its full check (01, Pages and trees; 003, 2.2.2.7).
+//! One page and its full check (01, Pages and trees; 02, 2/13; 003, 2.2.2.7).
 
 use crate::bytes::{u16_at, u32_at, u64_at};
 use crate::checksum::{checksum, signature};
 use crate::header::{reference_at, Reference};
-use crate::refusal::{demand, Answer};
+use crate::refusal::{demand, Answer, Refusal};
 
 pub const PAGE: usize = 512;
 pub const FIRST_OFFSET: u64 = 0x4400;
 pub const STEP: u64 = 64;
 pub const MOST_LEVEL: u8 = 7;
 
-#[derive(Clone, Copy, PartialEq, Eq, Debug)]
+#[derive(Clone, Copy, PartialEq, Eq, PartialOrd, Ord, Debug)]
 pub enum Tree {
     Nodes,
     Blocks,
@@ -74,19 +74,27 @@ pub struct Sought {
     pub range: Range,
 }
 
-/// A page that has passed its check.
+/// A page that has passed its check, or all of it but the keys.
 #[derive(Clone, Copy, Debug)]
 pub struct Page<'a> {
     bytes: &'a [u8],
     tree: Tree,
+    place: u64,
     range: Range,
     pub level: u8,
     pub count: usize,
 }
 
 impl<'a> Page<'a> {
-    /// The full check, refusals 6 to 11 in their order.
+    /// The full check: refusals 6 to 10 in their order, then the keys.
     pub fn check(image: &'a [u8], tree: Tree, sought: Sought) -> Answer<Self> {
+        let page = Self::shaped(image, tree, sought)?;
+        page.check_keys()?;
+        Ok(page)
+    }
+
+    /// A page whose keys are still to be tested.
+    pub fn shaped(image: &'a [u8], tree: Tree, sought: Sought) -> Answer<Self> {
         let place = sought.reference.offset;
         demand(offset_allowed(image, place), 6, place)?;
         let bytes = &image[place as usize..place as usize + PAGE];
@@ -98,20 +106,36 @@ impl<'a> Page<'a> {
         demand(is_numbered(bytes, sought.reference), 8, place)?;
         demand(u32_at(bytes, 500) == checksum(&bytes[..496]), 9, place)?;
         demand(counts_right(bytes, tree, sought.level), 10, place)?;
-        let page = Page {
+        Ok(Page {
             bytes,
             tree,
+            place,
             range: sought.range,
             level: bytes[491],
             count: usize::from(bytes[488]),
-        };
-        demand(page.keys_right(), 11, place)?;
-        Ok(page)
+        })
     }
 
-    fn keys_right(&self) -> bool {
-        let in_range = |at| self.range.holds(self.key(at));
-        (0..self.count).all(in_range) && (1..self.count).all(|at| self.key(at - 1) < self.key(at))
+    /// 11 and 21, entry by entry from left to right, at each its order before its range.
+    pub fn check_keys(&self) -> Answer<()> {
+        for at in 0..self.count {
+            if self.breaks_order(at) {
+                return Err(Refusal::key_order(self.place, at));
+            }
+            if self.breaks_range(at) {
+                return Err(Refusal::key_range(self.place, at));
+            }
+        }
+        Ok(())
+    }
+
+    /// Whether the key is not above the one before it.
+    pub fn breaks_order(&self, at: usize) -> bool {
+        at > 0 && self.key(at) <= self.key(at - 1)
+    }
+
+    pub fn breaks_range(&self, at: usize) -> bool {
+        !self.range.holds(self.key(at))
     }
 
     pub fn entry(&self, at: usize) -> &'a [u8] {

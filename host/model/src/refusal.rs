@@ -1,6 +1,7 @@
-//! The refusals and their numbers (01, Refusal numbers).
+//! The refusals and their numbers (01, Refusal numbers; 02, 2/13).
 
-/// The first fault met: its number, its place, and for 17 the length needed.
+/// The first fault met: its number, its place, and `more`: for 11 and 21 the index of the entry at
+/// fault, for 17 the length needed, otherwise 0.
 #[derive(Clone, Copy, PartialEq, Eq, Debug)]
 pub struct Refusal {
     pub number: u64,
@@ -16,6 +17,24 @@ impl Refusal {
             number,
             place,
             more: 0,
+        }
+    }
+
+    /// 11: the key of that entry is not above the one before it.
+    pub const fn key_order(place: u64, entry: usize) -> Self {
+        Self {
+            number: 11,
+            place,
+            more: entry as u64,
+        }
+    }
+
+    /// 21: the key of that entry lies outside the page's range.
+    pub const fn key_range(place: u64, entry: usize) -> Self {
+        Self {
+            number: 21,
+            place,
+            more: entry as u64,
         }
     }
 

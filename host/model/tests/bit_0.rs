@@ -67,6 +67,14 @@ fn refused<T>(number: u64, page: &PlacedPage) -> Answer<T> {
     Err(Refusal::new(number, page.offset as u64))
 }
 
+fn out_of_order<T>(page: &PlacedPage, at: usize) -> Answer<T> {
+    Err(Refusal::key_order(page.offset as u64, at))
+}
+
+fn out_of_range<T>(page: &PlacedPage, at: usize) -> Answer<T> {
+    Err(Refusal::key_range(page.offset as u64, at))
+}
+
 /// A number and the number with bit 0 the other way get one answer, field for field and byte for
 /// byte; the number answered is the listed one.
 #[test]
@@ -121,14 +129,14 @@ fn equal_keys_in_a_leaf() {
     let built = twins();
     let leaf = leaf_of(&built, Tree::Blocks, 0x1519);
     assert_eq!(leaf.keys, [0x1518, 0x1519]);
-    assert_eq!(check_blocks(&built.image), refused(11, leaf));
+    assert_eq!(check_blocks(&built.image), out_of_order(leaf, 1));
     for number in [0x1518, 0x1519, 0x151A, u64::MAX] {
-        assert_eq!(find_block(&built.image, number), refused(11, leaf));
-        assert_eq!(test_block(&built.image, number), refused(11, leaf));
-        assert_eq!(read(&built.image, number), refused(11, leaf));
+        assert_eq!(find_block(&built.image, number), out_of_order(leaf, 1));
+        assert_eq!(test_block(&built.image, number), out_of_order(leaf, 1));
+        assert_eq!(read(&built.image, number), out_of_order(leaf, 1));
     }
     for number in [0x1515, 0x1518, 0x1519] {
-        assert_eq!(next_block(&built.image, number), refused(11, leaf));
+        assert_eq!(next_block(&built.image, number), out_of_order(leaf, 1));
     }
     // Off the path to that leaf.
     for number in [0x1510, 0x1511, 0x1514] {
@@ -149,9 +157,9 @@ fn equal_keys_in_an_index_page() {
         let mut image = with_key(&built, page, 0, first);
         put(&mut image, page.offset + 24, second);
         seal_page(&mut image, page.offset);
-        assert_eq!(check_blocks(&image), refused(11, page));
-        assert_eq!(find_block(&image, 0x110), refused(11, page));
-        assert_eq!(next_block(&image, 0), refused(11, page));
+        assert_eq!(check_blocks(&image), out_of_order(page, 1));
+        assert_eq!(find_block(&image, 0x110), out_of_order(page, 1));
+        assert_eq!(next_block(&image, 0), out_of_order(page, 1));
     }
 }
 
@@ -162,8 +170,8 @@ fn chosen_image_with_equal_keys() {
     let image = images.iter().find(|image| image.name == "permute-level-2");
     let image = &image.expect("the image").bytes;
     assert_eq!(check_nodes(image), Ok(()));
-    assert_eq!(check_blocks(image), Err(Refusal::new(11, 0x4B40)));
-    assert_eq!(next_block(image, 0), Err(Refusal::new(11, 0x4B40)));
+    assert_eq!(check_blocks(image), Err(Refusal::key_order(0x4B40, 1)));
+    assert_eq!(next_block(image, 0), Err(Refusal::key_order(0x4B40, 1)));
     assert_eq!(test_block(image, 0xC), Ok(80));
 }
 
@@ -209,8 +217,8 @@ fn ranges_of_cleared_keys() {
         let mut image = with_key(&built, page, 1, behind);
         put(&mut image, leaf.offset + 24, last);
         seal_page(&mut image, leaf.offset);
-        assert_eq!(check_blocks(&image), refused(11, leaf));
-        assert_eq!(find_block(&image, 0x100), refused(11, leaf));
+        assert_eq!(check_blocks(&image), out_of_range(leaf, 1));
+        assert_eq!(find_block(&image, 0x100), out_of_range(leaf, 1));
         // Sought in the leaf behind it, and not there.
         assert_eq!(find_block(&image, 0x104), Ok(Lookup::Absent { pages: 2 }));
         assert_eq!(test_block(&image, 0x105), Err(Refusal::new(12, 0)));
@@ -226,7 +234,7 @@ fn ranges_of_cleared_keys() {
         assert_eq!(test_block(&image, 0x109), Ok(220));
     }
     let image = with_key(&built, page, 1, 0x10A);
-    assert_eq!(check_blocks(&image), refused(11, next));
+    assert_eq!(check_blocks(&image), out_of_range(next, 0));
 }
 
 /// The same of nodes, whose keys count with bit 0.
@@ -245,7 +253,7 @@ fn ranges_of_nodes() {
     assert_eq!(check_nodes(&with_key(&built, page, 0, 0x8021)), Ok(()));
     assert_eq!(
         check_nodes(&with_key(&built, page, 0, 0x8023)),
-        refused(11, leaf)
+        out_of_range(leaf, 0)
     );
 }
 

@@ -197,6 +197,31 @@ fn every_depth() {
     }
 }
 
+/// The most entries of an index page in some images of that plan.
+fn most_in_index(plan: &Plan) -> Option<usize> {
+    let images = (0..40).map(|seed| build(seed, plan));
+    let pages = images.flat_map(|built| {
+        assert_read_back(&built);
+        built.pages
+    });
+    let index = pages.filter(|page| page.level > 0);
+    index.map(|page| page.keys.len()).max()
+}
+
+#[test]
+fn wide_index_pages() {
+    let narrow = Plan {
+        node_level: 2,
+        block_level: 2,
+        block_nodes: 14,
+        most_size: 60,
+        ..Plan::default()
+    };
+    let wide = Plan { wider: 3, ..narrow };
+    assert_eq!(most_in_index(&narrow), Some(3));
+    assert_eq!(most_in_index(&wide), Some(6));
+}
+
 #[test]
 fn empty_trees() {
     let built = build(1, &Plan::default());

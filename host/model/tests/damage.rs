@@ -1,4 +1,4 @@
-//! What damage to bit 0 of a number leads to.
+//! What damage to bit 0 of a number, or to the keys of a page, leads to.
 
 use model::build::{build_small_loose, Built, PlacedBlock};
 use model::damage::{spoil, Damage, Spoilt};
@@ -61,9 +61,21 @@ fn keys() {
     assert_eq!(checked_blocks(Damage::KeyTwin), [11].into());
     assert_eq!(checked_blocks(Damage::KeyBit0), [0].into());
     assert_eq!(checked_blocks(Damage::KeyAtLow), [0].into());
-    assert_eq!(checked_blocks(Damage::KeyAtEnd), [11].into());
-    // In the node tree a key next to another is a key like any other.
-    assert_eq!(checked(Damage::KeyTwin), [(0, 0), (0, 11), (11, 0)].into());
+    assert_eq!(checked_blocks(Damage::KeyAtEnd), [21].into());
+    // In the node tree a key next to another is a key like any other, but one of them may have left
+    // its page's range, or a child's key the range between the two.
+    assert_eq!(checked(Damage::KeyTwin), [(0, 0), (0, 11), (21, 0)].into());
+}
+
+#[test]
+fn order_and_range_of_keys() {
+    let order = [(0, 11), (11, 0)];
+    let range = [(0, 21), (21, 0)];
+    assert_eq!(checked(Damage::KeyOrder), order.into());
+    assert_eq!(checked(Damage::KeyStale), range.into());
+    assert_eq!(checked(Damage::KeyBelow), order.into());
+    assert_eq!(checked(Damage::OrderThenRange), order.into());
+    assert_eq!(checked(Damage::RangeThenOrder), range.into());
 }
 
 #[test]

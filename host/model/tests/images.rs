@@ -10,7 +10,7 @@ use std::collections::BTreeSet;
 fn every_refusal() {
     let images = images();
     let reached: BTreeSet<_> = images.iter().flat_map(refusals).collect();
-    assert_eq!(reached, (1..=20).collect());
+    assert_eq!(reached, (1..=21).collect());
     assert!(images.iter().all(|image| image.bytes.len() <= MOST_SMALL));
     let names: BTreeSet<_> = images.iter().map(|image| &image.name).collect();
     assert_eq!(names.len(), images.len());
@@ -18,6 +18,9 @@ fn every_refusal() {
 
 /// Its child differs from a listed number in bit 0 alone.
 const READ_ALL_THE_SAME: &str = "refusal-12-treechild";
+
+/// Its key at fault ascends, outside the range, which has a number of its own: 21.
+const OUTSIDE_THE_RANGE: &str = "refusal-11-keylow";
 
 /// An image named for a refusal leads to it.
 #[test]
@@ -27,7 +30,11 @@ fn refusals_by_name() {
             continue;
         };
         let (number, _) = rest.split_once('-').expect("a number and a word");
-        let number = number.parse().expect("a number");
+        let number = if image.name == OUTSIDE_THE_RANGE {
+            21
+        } else {
+            number.parse().expect("a number")
+        };
         let refused = refusals(&image).contains(&number);
         assert_eq!(refused, image.name != READ_ALL_THE_SAME, "{}", image.name);
     }

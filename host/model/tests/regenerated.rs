@@ -55,6 +55,6 @@ fn report_unchanged() {
 fn report_shows_every_refusal() {
     let report = report();
     let refused = |number: &u64| report.contains(&format!("refused {number} at"));
-    let shown: BTreeSet<_> = (0..=21).filter(refused).collect();
-    assert_eq!(shown, (1..=20).collect());
+    let shown: BTreeSet<_> = (0..=22).filter(refused).collect();
+    assert_eq!(shown, (1..=21).collect());
 }

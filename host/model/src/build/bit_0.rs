@@ -178,7 +178,7 @@ fn root(built: &Built) -> &PlacedPage {
 
 impl Builder {
     /// Places a block under each number, the first the longest.
-    fn fill(&mut self, numbers: &[u64]) {
+    pub(super) fn fill(&mut self, numbers: &[u64]) {
         for (at, &number) in numbers.iter().enumerate() {
             let data = self.space.random.bytes(300 - 40 * at.min(6));
             self.blocks.place_as(&mut self.space, number, data);
@@ -201,7 +201,7 @@ impl Builder {
     }
 
     /// Lists a node for each of those data blocks.
-    fn name(&mut self, numbers: &[u64]) {
+    pub(super) fn name(&mut self, numbers: &[u64]) {
         for (node, &data) in (FIRST_NODE..).step_by(0x20).zip(numbers) {
             self.list_node(Node {
                 node,

@@ -4,6 +4,7 @@
 pub mod bit_0;
 mod blocks;
 pub mod heaps;
+pub mod keys;
 pub mod office;
 mod pages;
 pub mod seal;
@@ -53,6 +54,8 @@ pub struct Plan {
     pub spare_blocks: usize,
     /// Full pages, ascending numbers, no gaps and no stale bytes.
     pub tidy: bool,
+    /// An index page may have two entries more than it needs, and so many on top.
+    pub wider: usize,
     /// Bit 0 of a block's number is drawn in each place anew: in its listing, its trailer, the nodes
     /// and data trees that name it, and the index pages above it.
     pub loose_bit_0: bool,
@@ -356,8 +359,13 @@ impl Builder {
         // An index page holds at least one entry.
         let level = if entries.is_empty() { 0 } else { level };
         let level = level.max(least_level(tree, entries.len()));
-        let space = &mut self.space;
-        let root = Grower { space, tree, pages }.grow(entries, level, 0, None);
+        let mut grower = Grower {
+            space: &mut self.space,
+            tree,
+            pages,
+            most_spare: 2 + self.plan.wider,
+        };
+        let root = grower.grow(entries, level, 0, None);
         if let Some(page) = pages.last_mut() {
             page.is_root = true;
         }

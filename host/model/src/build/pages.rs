@@ -18,6 +18,8 @@ pub struct Grower<'a> {
     pub space: &'a mut Space,
     pub tree: Tree,
     pub pages: &'a mut Vec<PlacedPage>,
+    /// How many entries more than it needs an index page may have.
+    pub most_spare: usize,
 }
 
 /// The lowest level of a root over so many entries.
@@ -65,7 +67,7 @@ impl Grower<'_> {
         let parts = if self.space.tidy {
             least
         } else {
-            let highest = (least + 2).min(entries).min(20).max(least);
+            let highest = (least + self.most_spare).min(entries).min(20).max(least);
             self.space.random.between(least, highest)
         };
         let mut left = entries;

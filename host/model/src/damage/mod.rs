@@ -19,6 +19,7 @@ macro_rules! kinds {
 mod block;
 mod header;
 pub mod heap;
+mod keys;
 mod page;
 
 use crate::build::Built;
@@ -71,6 +72,13 @@ kinds! {
             ChildBit0,
             DataBit0,
             DataOne,
+        ]
+        KEYS [
+            KeyOrder,
+            KeyStale,
+            KeyBelow,
+            OrderThenRange,
+            RangeThenOrder,
         ]
         BLOCK [
             ListedOffset,
@@ -167,6 +175,8 @@ impl<'a> Spoiler<'a> {
             self.spoil_header(damage);
         } else if PAGE.contains(&damage) {
             self.spoil_page(damage);
+        } else if KEYS.contains(&damage) {
+            self.spoil_keys(damage);
         } else if BLOCK.contains(&damage) {
             self.spoil_block(damage);
         } else if damage == Cut {

@@ -70,7 +70,7 @@ impl<'a> Spoiler<'a> {
         self.random.pick(&pages).copied()
     }
 
-    fn look_at(&mut self, tree: Tree, keys: &[u64]) {
+    pub(super) fn look_at(&mut self, tree: Tree, keys: &[u64]) {
         let seen = match tree {
             Tree::Nodes => &mut self.nodes,
             Tree::Blocks => &mut self.blocks,
@@ -170,7 +170,7 @@ impl<'a> Spoiler<'a> {
     }
 
     /// Where the page's range begins.
-    fn low(&self, page: &'a PlacedPage) -> u64 {
+    pub(super) fn low(&self, page: &'a PlacedPage) -> u64 {
         let first = page.tree.key(page.keys[0]);
         let keys = self.keys_above(page);
         let up_to_first = keys.filter(|&key| page.tree.key(key) <= first);
@@ -178,7 +178,7 @@ impl<'a> Spoiler<'a> {
     }
 
     /// The first key behind the page's range.
-    fn end(&self, page: &'a PlacedPage) -> u64 {
+    pub(super) fn end(&self, page: &'a PlacedPage) -> u64 {
         let last = page.tree.key(page.keys[page.keys.len() - 1]);
         let keys = self.keys_above(page);
         let behind_last = keys.filter(|&key| last < page.tree.key(key));
