@@ -2,7 +2,7 @@
 
 use model::build::seal::{seal_header, seal_page};
 use model::build::{build, build_small, build_small_loose, Built, PlacedPage, Plan};
-use model::damage::{spoil, spoil_again, Spoilt, HEADER, PAGE, WHOLE};
+use model::damage::{spoil, spoil_again, Spoilt, HEADER, KEYS, PAGE, WHOLE};
 use model::page::Tree;
 use model::random::Random;
 use rekwonuda::{BlockId, Fault, Image, Key, NodeId, Refusal, WrongKey, WrongKeys};
@@ -286,8 +286,8 @@ fn hold_lookups(image: &[u8], nodes: &[u64], blocks: &[u64]) -> usize {
 fn hold_damages(built: &Built, seed: u64) -> (usize, usize) {
     let (mut keys, mut lookups) = (0, 0);
     let mut random = Random::new(seed);
-    for damage in HEADER.iter().chain(PAGE).chain(WHOLE) {
-        let once = spoil(built, *damage, true, &mut random);
+    for damage in [HEADER, PAGE, KEYS, WHOLE].concat() {
+        let once = spoil(built, damage, true, &mut random);
         let other = random.pick(PAGE).copied().unwrap();
         let twice = spoil_again(built, once.clone(), other, true, &mut random);
         for Spoilt {

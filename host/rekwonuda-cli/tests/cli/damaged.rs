@@ -2,7 +2,7 @@
 
 use crate::runs::{file, run, Run};
 use model::build::{build_small, Built};
-use model::damage::{spoil, Damage, BLOCK, HEADER, PAGE, WHOLE};
+use model::damage::{spoil, Damage, BLOCK, HEADER, KEYS, PAGE, WHOLE};
 use model::random::Random;
 use model::Refusal;
 use serde_json::Value;
@@ -185,6 +185,11 @@ fn headers() {
 #[test]
 fn pages() {
     goes_through("damaged_page", PAGE);
+}
+
+#[test]
+fn keys() {
+    goes_through("damaged_key", KEYS);
 }
 
 #[test]
