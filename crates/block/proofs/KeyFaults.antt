@@ -4,7 +4,6 @@ use mathlib.Core.Path.{refl}
 use mathlib.Core.List.{List}
 use Rattle.keys.specs.declared.Sought.the-variants.{Equal}
 use Rattle.page.specs.Layout.{bbt}
-use Rattle.tree.specs.declared.Listed.{Listed}
 use Rattle.tree.specs.declared.FoundBlock.{FoundBlock}
 use Rattle.tree.specs.declared.FoundBlock.the-variants as block
 use Rattle.tree.specs.Answers.{blockOf}
@@ -12,7 +11,7 @@ use Rattle.tree.specs.KeyFaults.{KeyFault}
 use Rattle.tree.proofs.KeyFaults.{Quiet, KeysTell, quiet-tell, append-tell, search-tells}
 use Rattle.block.specs.declared.Checked.{Checked}
 use Rattle.block.specs.declared.Checked.the-variants as checked
-use Rattle.block.specs.Block.{trailer64, trailerRules, blockRules, checkedBlock}
+use Rattle.block.specs.Block.{trailerRules, blockRules, checkedBlock}
 use Rattle.block.specs.Tried.{listedRules, testRules, spaceRules, readRules}
 
 listed-quiet : (image : List ℕ) (found : FoundBlock) → Quiet (listedRules image found)

@@ -40,7 +40,7 @@ module _ (image : List ℕ) where
   buffer-quiet absent space = tt
   buffer-quiet (refused r) space = tt
 
-  -- a yes or no of which one has no rules
+  -- either of two lists
   cond-tell : (b : Bool) (rs ss : List Rule) → KeysTell EitherTree rs → KeysTell EitherTree ss → KeysTell EitherTree (cond b rs ss)
   cond-tell true rs ss one other = one
   cond-tell false rs ss one other = other

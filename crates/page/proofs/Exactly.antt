@@ -11,7 +11,7 @@ use Rattle.laws.proofs.Tests.{and-both, both-and}
 use Rattle.le.specs.Bytes.{field, byte}
 use Rattle.refusal.specs.declared.Refusal.{Refusal}
 use Rattle.refusal.specs.declared.Verdict.the-variants.{Accepted, Refused}
-use Rattle.refusal.specs.Order.{AllHold, none, both, FirstFault}
+use Rattle.refusal.specs.Order.{AllHold, both, FirstFault}
 use Rattle.refusal.proofs.OrderLaws.{accepted-exactly, refused-exactly}
 use Rattle.keys.proofs.Climbs.{ordered-exactly}
 use Rattle.header.specs.Header.{fileEnd}

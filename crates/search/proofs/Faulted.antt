@@ -6,16 +6,16 @@ use mathlib.Core.List.{List, [], _∷_, map, List·Memᴰ, List·Memᴰ·head, L
 use lib.ListN.{take, drop}
 use Rattle.refusal.specs.declared.Refusal.{Refusal}
 use Rattle.refusal.specs.declared.Verdict.{Verdict}
-use Rattle.refusal.specs.declared.Verdict.the-variants.{Accepted, Refused}
+use Rattle.refusal.specs.declared.Verdict.the-variants.{Accepted}
 use Rattle.refusal.specs.Order.{Rule, after, FirstFault}
 use Rattle.refusal.proofs.OrderLaws.{append-fault}
 use Rattle.keys.specs.declared.Seat.{Seat}
-use Rattle.keys.specs.declared.Seat.the-variants.{At, Nowhere}
+use Rattle.keys.specs.declared.Seat.the-variants.{At}
 use Rattle.keys.specs.declared.Sought.{Sought}
 use Rattle.keys.specs.declared.Sought.the-variants.{Equal, AtLeast}
 use Rattle.keys.specs.Search.{joined, lastAtMost, start}
 use Rattle.search.specs.SearchTree.{SearchTree, test, children, rulesUnder, Reached, at-root, below}
-use Rattle.search.specs.Answer.{Answer, found, absent, refused, whereAbsent, turnsOf}
+use Rattle.search.specs.Answer.{Answer, absent, whereAbsent, turnsOf}
 use Rattle.search.specs.Descent.{fromSeat, lowIn, picked, descend, ofRead, rulesRead}
 
 -- things that are picked stand among those picked from

@@ -3,10 +3,9 @@ use Prim.Native.Nat.{ℕ}
 use mathlib.Core.Path.{_≡_, refl, sym, ap, _∙_, subst}
 use mathlib.Core.Bool.{Bool, true, false, _||_}
 use mathlib.Core.Logic.{_⊎_, ⊎-elim}
-use mathlib.Core.List.{List, [], _∷_, _++_}
+use mathlib.Core.List.{List, _++_}
 use native.Mathlib.Omega.{arith}
 use lib.Dec.{eqb}
-use borrow.Author.Tests.{eqb-true}
 use Rattle.refusal.specs.declared.Fault.the-variants.{KeyOrder, KeyRange}
 use Rattle.refusal.specs.declared.Refusal.{Refusal}
 use Rattle.refusal.specs.declared.Verdict.the-variants.{Refused}
@@ -18,7 +17,6 @@ use Rattle.keys.specs.Search.{joined}
 use Rattle.search.proofs.Faulted.{FaultOf, check-fault, search-fault, joined-fault}
 use Rattle.header.specs.Header.{markRules, sealRules, headerRules}
 use Rattle.page.specs.declared.Layout.{Layout}
-use Rattle.page.specs.declared.Link.{Link}
 use Rattle.page.specs.Page.{pageFits}
 use Rattle.page.proofs.Exactly.{page-first-fault}
 use Rattle.page.proofs.KeyFaults.{key-faults}

@@ -8,7 +8,7 @@ use Rattle.page.specs.declared.Link.{Link}
 use Rattle.page.specs.Sound.{PageSound}
 use Rattle.tree.specs.Tree.{root, rootLevel, pageTree}
 
--- the header's rules, and for every page reached from the root the rules 6 to 11 with its level and range
+-- the header's rules, and for every page reached from the root the rules 6 to 11 and 21 with its level and range
 pub record TreeSound (L : Layout) (image : List ℕ) : Type 0 where
   pub header : HeaderSound image
   pub pages : (l : ℕ) (p : Link) → Reached (pageTree L image) (rootLevel L image) (root L image) l p → PageSound L image p
