@@ -8,6 +8,7 @@ use native.Mathlib.Omega.{arith}
 use lib.Dec.{ltb}
 use lib.ListN.{length, take, getD}
 use borrow.Author.Tests.{ltb-true, ltb-false, lt-ltb, le-ltb}
+use Rattle.laws.proofs.Tests.{not-both}
 use Rattle.keys.specs.declared.Range.{Range}
 use Rattle.keys.specs.declared.Order.{Order}
 use Rattle.keys.specs.declared.Order.the-variants.{Climbing, Unordered, Outside}
@@ -68,10 +69,7 @@ module _ (range : Range) where
       }
 
   outside-of : (key : ℕ) → inRange range key ≡ false → Inside range key → ⊥
-  outside-of key e h =
-      let both : true ≡ false = sym (inside-range range key h) ∙ e in
-      let clash : _≡_ {A = ℕ} 0 1 = cc in
-      omega arith
+  outside-of key e h = not-both (inRange range key) (inside-range range key h) e
 
   of-outside : (key : ℕ) → (Inside range key → ⊥) → inRange range key ≡ false
   of-outside key h = by (inRange range key) refl
@@ -143,10 +141,10 @@ module _ (range : Range) where
   range-top : (key : ℕ) (keys : List ℕ) (n : ℕ) → Inside range key → RangeAfter range key keys n → OutOfRange range (key ∷ keys) (suc n)
   range-top key keys n into h = record { good = good-top key keys n into (h .good); above = λ first. rw (less-one n) (h .above); outside = h .outside }
 
-  top-says : (keys : List ℕ) (i : ℕ) → ordered range keys ≡ Unordered i → OutOfOrder range keys i
+  order-of : (keys : List ℕ) (i : ℕ) → ordered range keys ≡ Unordered i → OutOfOrder range keys i
   unfolding ordered
-  top-says [] i e = absurd (not-unordered i (sym e))
-  top-says (key ∷ keys) i e = by (inRange range key) refl e
+  order-of [] i e = absurd (not-unordered i (sym e))
+  order-of (key ∷ keys) i e = by (inRange range key) refl e
     where
       by : (b : Bool) → inRange range key ≡ b → cond b (orderedAfter range 1 key keys) (Outside 0) ≡ Unordered i → OutOfOrder range (key ∷ keys) i
       by true r o =
@@ -156,10 +154,10 @@ module _ (range : Range) where
           subst (OutOfOrder range (key ∷ keys)) next (order-top key keys (s .steps) (in-range range key r) (s .holds))
       by false r o = let clash : _≡_ {A = ℕ} 0 1 = cc in absurd (omega arith)
 
-  top-outside : (keys : List ℕ) (i : ℕ) → ordered range keys ≡ Outside i → OutOfRange range keys i
+  range-of : (keys : List ℕ) (i : ℕ) → ordered range keys ≡ Outside i → OutOfRange range keys i
   unfolding ordered
-  top-outside [] i e = absurd (not-outside i (sym e))
-  top-outside (key ∷ keys) i e = by (inRange range key) refl e
+  range-of [] i e = absurd (not-outside i (sym e))
+  range-of (key ∷ keys) i e = by (inRange range key) refl e
     where
       by : (b : Bool) → inRange range key ≡ b → cond b (orderedAfter range 1 key keys) (Outside 0) ≡ Outside i → OutOfRange range (key ∷ keys) i
       by true r o =
@@ -172,36 +170,36 @@ module _ (range : Range) where
           subst (OutOfRange range (key ∷ keys)) zeroth
           (record { good = record { there = omega arith; ascending = tt; inside = tt }; above = λ h. absurd (omega (arith, h)); outside = outside-of key r })
 
-  says-top : (keys : List ℕ) (i : ℕ) → OutOfOrder range keys i → ordered range keys ≡ Unordered i
+  order-found : (keys : List ℕ) (i : ℕ) → OutOfOrder range keys i → ordered range keys ≡ Unordered i
   unfolding ordered
-  says-top [] i h = let t = h .good .there in absurd (omega (arith, t))
-  says-top (key ∷ keys) zero h = let t = h .not-first in absurd (omega (arith, t))
-  says-top (key ∷ keys) (suc n) h =
+  order-found [] i h = let t = h .good .there in absurd (omega (arith, t))
+  order-found (key ∷ keys) zero h = let t = h .not-first in absurd (omega (arith, t))
+  order-found (key ∷ keys) (suc n) h =
       rw (inside-range range key (h .good .inside .0))
       (order-after n 1 key keys (record { good = good-under key keys n (h .good); not-above = subst (λ m. getD keys n 0 ≤ getD (key ∷ keys) m 0) (less-one n) (h .not-above) }) ∙ ap Unordered (omega arith))
 
-  outside-top : (keys : List ℕ) (i : ℕ) → OutOfRange range keys i → ordered range keys ≡ Outside i
+  range-found : (keys : List ℕ) (i : ℕ) → OutOfRange range keys i → ordered range keys ≡ Outside i
   unfolding ordered
-  outside-top [] i h = let t = h .good .there in absurd (omega (arith, t))
-  outside-top (key ∷ keys) zero h = rw (of-outside key (h .outside))
-  outside-top (key ∷ keys) (suc n) h =
+  range-found [] i h = let t = h .good .there in absurd (omega (arith, t))
+  range-found (key ∷ keys) zero h = rw (of-outside key (h .outside))
+  range-found (key ∷ keys) (suc n) h =
       rw (inside-range range key (h .good .inside .0))
       (range-after n 1 key keys (record { good = good-under key keys n (h .good); above = subst (λ m. getD (key ∷ keys) m 0 < getD keys n 0) (less-one n) (h .above (omega arith)); outside = h .outside }) ∙ ap Outside (omega arith))
 
   -- the test finds a key out of order, or out of range, exactly when it is the first at fault; and none exactly when there is none
   pub unordered-exactly : (keys : List ℕ) (i : ℕ) → (ordered range keys ≡ Unordered i) ↔ OutOfOrder range keys i
-  unordered-exactly keys i = (top-says keys i, says-top keys i)
+  unordered-exactly keys i = (order-of keys i, order-found keys i)
 
   pub outside-exactly : (keys : List ℕ) (i : ℕ) → (ordered range keys ≡ Outside i) ↔ OutOfRange range keys i
-  outside-exactly keys i = (top-outside keys i, outside-top keys i)
+  outside-exactly keys i = (range-of keys i, range-found keys i)
 
   pub climbing-exactly : (keys : List ℕ) → (ordered range keys ≡ Climbing) ↔ ((i : ℕ) → (OutOfOrder range keys i → ⊥) × (OutOfRange range keys i → ⊥))
   climbing-exactly keys = (
-    (λ e i. ((λ h. not-unordered i (sym (says-top keys i h) ∙ e)), (λ h. not-outside i (sym (outside-top keys i h) ∙ e)))),
+    (λ e i. ((λ h. not-unordered i (sym (order-found keys i h) ∙ e)), (λ h. not-outside i (sym (range-found keys i h) ∙ e)))),
     (λ none. by none (ordered range keys) refl),
   )
     where
       by : ((i : ℕ) → (OutOfOrder range keys i → ⊥) × (OutOfRange range keys i → ⊥)) → (o : Order) → ordered range keys ≡ o → o ≡ Climbing
       by none Climbing e = refl
-      by none (Unordered i) e = absurd (none i .0 (top-says keys i e))
-      by none (Outside i) e = absurd (none i .1 (top-outside keys i e))
+      by none (Unordered i) e = absurd (none i .0 (order-of keys i e))
+      by none (Outside i) e = absurd (none i .1 (range-of keys i e))

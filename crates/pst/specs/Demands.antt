@@ -12,7 +12,7 @@ use lib.Dec.{leb}
 use lib.ListN.{length}
 use Rattle.le.specs.Bytes.{Bytes}
 use Rattle.refusal.specs.declared.Refusal.{Refusal}
-use Rattle.refusal.specs.declared.Fault.the-variants.{Encoding, KeyOrder, KeyRange}
+use Rattle.refusal.specs.declared.Fault.the-variants.{Encoding, KeyRange}
 use Rattle.refusal.specs.declared.Verdict.the-variants.{Refused}
 use Rattle.refusal.specs.Order.{_at_, atEntry, Rule, rule, AllHold, FirstFault}
 use Rattle.keys.specs.declared.Sought.the-variants.{Equal, AtLeast}
@@ -37,7 +37,7 @@ use Rattle.tree.specs.Tree.{root, rootLevel, treeRules, scan, allRoutes}
 use Rattle.tree.specs.Lookup.{path, searchRules, pagesRead}
 use Rattle.tree.specs.Answers.{shown, asNode, asBlock}
 use Rattle.tree.specs.Sound.{TreeSound}
-use Rattle.tree.specs.KeyFaults.{KeyFault}
+use Rattle.tree.specs.KeyFaults.{OfKeys, KeyFault}
 use Rattle.tree.specs.Demand3.{AgreeOnPath, AgreeOnRead}
 use Rattle.tree.specs.Listing.{TreeLists}
 use Rattle.block.specs.Block.{trailer64, blockBytes, fronted}
@@ -191,7 +191,7 @@ FirstRequest = (image : List ℕ) (one other : ℕ) → cleared one ≡ cleared 
 
 -- Request 2/13: 11 and 21 say which key rule a page breaks, and at which entry. Where a call is refused with either, this holds of the refusal
 abbrev pub KeysTold : (Refusal → Type 0) → Meaning → Type 0
-KeysTold P outcome = (r : Refusal) → outcome ≡ refusalMeans r → (r .fault ≡ KeyOrder) ⊎ (r .fault ≡ KeyRange) → P r
+KeysTold P outcome = (r : Refusal) → outcome ≡ refusalMeans r → OfKeys r → P r
 
 pub record SecondRequest : Type 0 where
   -- of any page, over any layout: refused with either exactly when it passes 6 to 10 and that entry is the first at fault in that way, accepted exactly when none is; 11 never of the first entry

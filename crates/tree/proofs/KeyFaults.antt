@@ -6,6 +6,7 @@ use mathlib.Core.Logic.{_⊎_, ⊎-elim}
 use mathlib.Core.List.{List, _++_}
 use native.Mathlib.Omega.{arith}
 use lib.Dec.{eqb}
+use Rattle.laws.proofs.Tests.{not-both}
 use Rattle.refusal.specs.declared.Fault.the-variants.{KeyOrder, KeyRange}
 use Rattle.refusal.specs.declared.Refusal.{Refusal}
 use Rattle.refusal.specs.declared.Verdict.the-variants.{Refused}
@@ -22,13 +23,9 @@ use Rattle.page.proofs.Exactly.{page-first-fault}
 use Rattle.page.proofs.KeyFaults.{key-faults}
 use Rattle.tree.specs.Tree.{root, rootLevel, pageTree, treeRules}
 use Rattle.tree.specs.Lookup.{askedFor, searchRules}
-use Rattle.tree.specs.KeyFaults.{KeyFault, order, range}
+use Rattle.tree.specs.KeyFaults.{OfKeys, KeyFault, order, range}
 
--- the two faults of keys
-abbrev pub OfKeys : Refusal → Type 0
-OfKeys r = (r .fault ≡ KeyOrder) ⊎ (r .fault ≡ KeyRange)
-
--- rules that have no such refusal
+-- rules that have no refusal 11 or 21
 abbrev pub keyed : ℕ → Bool
 keyed n = eqb n 11 || eqb n 21
 
@@ -52,9 +49,7 @@ module _ (P : Refusal → Type 0) where
   quiet-tell rules q r f k =
       let no = fault-among (λ s. keyed (number (s .fault)) ≡ false) rules r q f in
       let yes : keyed (number (r .fault)) ≡ true = ⊎-elim (λ (e : r .fault ≡ KeyOrder). rw e) (λ (e : r .fault ≡ KeyRange). rw e) k in
-      let clash : true ≡ false = sym yes ∙ no in
-      let apart : _≡_ {A = ℕ} 0 1 = cc in
-      absurd (omega arith)
+      not-both _ yes no
 
   pub append-tell : (rs ss : List Rule) → KeysTell P rs → KeysTell P ss → KeysTell P (rs ++ ss)
   append-tell rs ss one other r f k =
