@@ -29,7 +29,8 @@ use Rattle.block.specs.declared.Trailer.{Trailer}
 use Rattle.block.specs.declared.Checked.{Checked}
 use Rattle.block.specs.declared.Checked.the-variants as checked
 use Rattle.block.specs.declared.Sized.the-variants as sized
-use Rattle.block.specs.Block.{trailer64, roomFor, stored, trailerOf, placeFits, trailerRules, blockRules, blockFits, testedBy, checkedBlock, sizeIn, internal, plain, blockBytes, fronted, fitting, readIn, readOf, filledIn, filledOf}
+use Rattle.laws.specs.Front.{fronted}
+use Rattle.block.specs.Block.{trailer64, roomFor, stored, trailerOf, placeFits, trailerRules, blockRules, blockFits, testedBy, checkedBlock, sizeIn, internal, plain, blockBytes, fitting, readIn, readOf, filledIn, filledOf}
 use Rattle.block.specs.Sound.{FairTrailer}
 
 pub fair-trailer : FairTrailer trailer64

@@ -1,5 +1,4 @@
 pub mod BlockLaws
-pub mod Fronts
 pub mod Exactly
 pub mod TriedLaws
 pub mod BitZero

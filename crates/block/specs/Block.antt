@@ -1,9 +1,10 @@
 -- Document 01, "Blocks and their encoding" (003, 2.2.2.8): a block's room, its tests 12 to 15, its bytes. Assumes nothing: these are definitions.
 use Prim.Native.Nat.{ℕ, _+_, _-_, _*_, _/_, _%_}
 use mathlib.Core.Bool.{Bool, _&&_, cond}
-use mathlib.Core.List.{List, [], _∷_, _++_}
+use mathlib.Core.List.{List, [], _∷_}
 use lib.Dec.{leb, eqb}
-use lib.ListN.{length, drop}
+use lib.ListN.{length}
+use Rattle.laws.specs.Front.{fronted}
 use Rattle.le.specs.Bytes.{part, field}
 use Rattle.crc.specs.Checksum.{checksum}
 use Rattle.coding.specs.Coding.{decoded}
@@ -97,10 +98,6 @@ plain method number bytes = cond (internal number) bytes (decoded method number 
 -- a block's bytes, decoded unless it is internal
 unfoldable pub blockBytes : List ℕ → Listed → List ℕ
 blockBytes image b = plain (methodOf image) (b .block) (part image (b .offset) (b .size))
-
--- the bytes at the front of a buffer, what follows them as it was
-abbrev pub fronted : List ℕ → List ℕ → List ℕ
-fronted bytes out = bytes ++ drop (length bytes) out
 
 -- 17: "output buffer shorter than the data", with the length needed
 unfoldable pub fitting : ℕ → ℕ → Sized

@@ -12,7 +12,8 @@ ghost use Rattle.le.specs.Bytes.{byte};
 ghost use Rattle.refusal.specs.Order.{inOrder};
 ghost use Rattle.header.specs.Header.{headerFits};
 ghost use Rattle.block.specs.Sound.{FairTrailer};
-ghost use Rattle.block.specs.Block.{trailer64, roomFor, room as roomOf, placeFits, trailerFits, sumFits, trailerRules, blockFits, testedBy, checkedBlock, sizeIn, testOf, internal, plain, fronted, blockBytes, readOf, filledOf};
+ghost use Rattle.laws.specs.Front.{fronted};
+ghost use Rattle.block.specs.Block.{trailer64, roomFor, room as roomOf, placeFits, trailerFits, sumFits, trailerRules, blockFits, testedBy, checkedBlock, sizeIn, testOf, internal, plain, blockBytes, readOf, filledOf};
 
 // Where a block's trailer has its fields, and how much data a block has at most.
 pub struct Trailer {

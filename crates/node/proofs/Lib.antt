@@ -1,6 +1,5 @@
 pub mod Numbers
 pub mod Kids
-pub mod Running
 pub mod Outcomes
 pub mod Exactly
 pub mod TriedLaws

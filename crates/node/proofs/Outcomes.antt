@@ -26,7 +26,8 @@ use Rattle.tree.specs.declared.FoundNode.the-variants as node
 use Rattle.tree.specs.Answers.{nodeOf}
 use Rattle.block.specs.declared.Checked.{Checked}
 use Rattle.block.specs.declared.Checked.the-variants as checked
-use Rattle.block.specs.Block.{checkedBlock, internal, blockBytes, fronted}
+use Rattle.laws.specs.Front.{fronted}
+use Rattle.block.specs.Block.{checkedBlock, internal, blockBytes}
 use Rattle.node.specs.declared.NodeRead.{NodeRead}
 use Rattle.node.specs.declared.NodeRead.the-variants as read
 use Rattle.node.specs.Steps.{measuredIn, refusedSum, refusedRead, goneRead, AllListed, bytesAt}

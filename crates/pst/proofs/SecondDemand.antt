@@ -36,7 +36,8 @@ use Rattle.tree.proofs.Exactly.{tree-exactly}
 use Rattle.block.specs.declared.Checked.{Checked}
 use Rattle.block.specs.declared.Checked.the-variants as checked
 use Rattle.block.specs.declared.Sized.the-variants as sized
-use Rattle.block.specs.Block.{checkedBlock, sizeIn, testOf, fitting, readIn, readOf, blockBytes, fronted}
+use Rattle.laws.specs.Front.{fronted}
+use Rattle.block.specs.Block.{checkedBlock, sizeIn, testOf, fitting, readIn, readOf, blockBytes}
 use Rattle.block.proofs.BlockLaws.{read-fills}
 use Rattle.block.proofs.Exactly.{checked-exactly}
 use Rattle.node.specs.declared.NodeRead.the-variants as read

@@ -16,7 +16,8 @@ use Rattle.coding.proofs.CodingLaws.{coded-none}
 use Rattle.block.specs.declared.Checked.{Checked}
 use Rattle.block.specs.declared.Checked.the-variants as checked
 use Rattle.block.specs.declared.Sized.the-variants as sized
-use Rattle.block.specs.Block.{checkedBlock, blockBytes, fronted, fitting, readIn, readOf, filledIn, filledOf}
+use Rattle.laws.specs.Front.{fronted}
+use Rattle.block.specs.Block.{checkedBlock, blockBytes, fitting, readIn, readOf, filledIn, filledOf}
 use Rattle.node.specs.Content.{Content, nodeContent, answerTo, filledBy}
 use Rattle.node.specs.Content as content
 use Rattle.node.specs.declared.NodeRead.the-variants as read

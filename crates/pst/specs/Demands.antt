@@ -40,7 +40,8 @@ use Rattle.tree.specs.Sound.{TreeSound}
 use Rattle.tree.specs.KeyFaults.{OfKeys, KeyFault}
 use Rattle.tree.specs.Demand3.{AgreeOnPath, AgreeOnRead}
 use Rattle.tree.specs.Listing.{TreeLists}
-use Rattle.block.specs.Block.{trailer64, blockBytes, fronted}
+use Rattle.laws.specs.Front.{fronted}
+use Rattle.block.specs.Block.{trailer64, blockBytes}
 use Rattle.block.specs.Sound.{BlockSound}
 use Rattle.block.specs.Tried.{testRules, readRules}
 use Rattle.node.specs.Named.{Named}

@@ -1,7 +1,8 @@
 use mathlib.Core.Path.{ap₂, _∙_}
 use Prim.Native.Nat.{ℕ}
 use mathlib.Core.List.{List}
-use Rattle.block.specs.Block.{plain, fronted, blockBytes}
+use Rattle.laws.specs.Front.{fronted}
+use Rattle.block.specs.Block.{plain, blockBytes}
 use Rattle.le.proofs.FieldLaws.{part-is}
 use borrow.Author.Needs.{needs}
 use Rattle.block.proofs.block_into.Statement.{statement}

@@ -1,5 +1,5 @@
 use Rattle.block.specs.Block.{plain}
-use Rattle.block.proofs.Fronts.{front}
+use Rattle.laws.proofs.Fronts.{front}
 use Rattle.block.proofs.BlockLaws.{plain-length}
 use borrow.Author.Needs.{needs}
 use Rattle.block.proofs.decode_into.Statement.{statement}

@@ -5,13 +5,14 @@ use mathlib.Core.List.{List, _++_}
 use native.Mathlib.Omega.{arith}
 use lib.ListN.{length, take, drop, length-take, length-drop}
 use Rattle.keys.specs.Search.{joined}
-use Rattle.block.specs.Block.{checkedBlock, blockBytes, fronted}
+use Rattle.laws.specs.Front.{fronted}
+use Rattle.block.specs.Block.{checkedBlock, blockBytes}
 use Rattle.block.specs.declared.Checked.the-variants.{Block}
 use Rattle.node.specs.Content.{numberAt, numbersFrom}
 use Rattle.node.specs.Steps.{IsListed, AllListed, bytesAt}
 use Rattle.node.proofs.Numbers.{rest, rest-all, rest-at, joined-rest, joined-none}
 use Rattle.node.proofs.Kids.{bytes-here}
-use Rattle.node.proofs.Running.{room-left, left-on, stands-on, stands-whole}
+use Rattle.laws.proofs.Running.{room-left, left-on, stands-on, stands-whole}
 use Rattle.block.proofs.BlockLaws.{checked-inside, checked-large, bytes-length}
 use Rattle.node.proofs.gather.Statement.{statement}
 use Rattle.node.proofs.gather.Tie as tie

@@ -4,7 +4,7 @@ use native.Mathlib.Omega.{arith}
 use mathlib.Core.List.{List}
 use lib.ListN.{length}
 use Rattle.laws.proofs.Tests.{fails, holds}
-use Rattle.block.specs.Block.{fronted}
+use Rattle.laws.specs.Front.{fronted}
 use Rattle.node.specs.Content.{countIn}
 use Rattle.node.proofs.Outcomes.{outcome-of, refused-outcome, short-outcome, done-outcome, shape-of, tree-shapeless, tree-fault, tree-other-sum, tree-bytes, failed, passed, refused-sum-is}
 use borrow.Author.Needs.{needs}

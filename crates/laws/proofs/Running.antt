@@ -5,10 +5,10 @@ use mathlib.Core.List.{List, [], _++_}
 use native.Mathlib.Omega.{arith}
 use lib.ListN.{length, take, drop, length-append, length-drop}
 use lib.Seq.{take-at, drop-at, drop-drop, take-add, take-all, length-take-le}
-use Rattle.block.specs.Block.{fronted}
-use Rattle.block.proofs.Fronts.{behind}
+use Rattle.laws.specs.Front.{fronted}
+use Rattle.laws.proofs.Fronts.{behind}
 
--- of the whole, n bytes stand in the buffer, and s and then more are still to come
+-- of the whole, n stand in the buffer, and s and then more are still to come
 module _ (whole s more : List ℕ) (n : ℕ) (here : n ≤ length whole) (left : drop n whole ≡ s ++ more) where
   pub room-left : n + length s ≤ length whole
   room-left = omega (arith, length-drop n whole, ap length left, length-append s more)

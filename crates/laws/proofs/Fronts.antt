@@ -1,4 +1,4 @@
--- Bytes that come to stand at the front of a buffer. Assumes nothing.
+-- What comes to stand at the front of a buffer. Assumes nothing.
 use Prim.Native.Nat.{ℕ, _-_, _≤_}
 use mathlib.Core.Path.{_≡_, refl, sym, ap, ap₂, _∙_}
 use mathlib.Core.List.{List, _++_, append-assoc, append-nil}
@@ -6,7 +6,7 @@ use native.Mathlib.Nat.{sub-zero}
 use native.Mathlib.Omega.{arith}
 use lib.ListN.{length, take, drop, length-append, drop-of-length-le}
 use lib.Seq.{take-at, drop-at, drop-drop, take-all}
-use Rattle.block.specs.Block.{fronted}
+use Rattle.laws.specs.Front.{fronted}
 
 -- the front of out is replaced by s, and then by what f makes of it
 pub front : (f : List ℕ → List ℕ) (s out p u : List ℕ) → p ≡ s → length (f s) ≡ length s → u ≡ f (take (length s - 0) (p ++ drop (length s - 0) out))
