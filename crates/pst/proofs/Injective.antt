@@ -2,14 +2,13 @@
 use mathlib.Core.Path.{_≡_, refl, sym, ap, ap₂, _∙_}
 use Prim.Native.Nat.{ℕ, zero, suc}
 use lib.ListN.{getD}
-use Rattle.refusal.specs.declared.Fault.{Fault}
 use Rattle.refusal.specs.declared.Fault.the-variants.{ImageLength}
 use Rattle.refusal.specs.declared.Refusal.{Refusal}
 use Rattle.refusal.specs.declared.Verdict.{Verdict}
 use Rattle.refusal.specs.declared.Verdict.the-variants as verdict
 use Rattle.refusal.specs.Number.{number}
 use Rattle.refusal.specs.Order.{_at_}
-use Rattle.refusal.proofs.NumberLaws.{number-injective}
+use Rattle.refusal.proofs.NumberLaws.{refusal-same}
 use Rattle.header.specs.declared.HeaderAnswer.{HeaderAnswer}
 use Rattle.header.specs.declared.HeaderAnswer.the-variants as header
 use Rattle.tree.specs.declared.FoundNode.{FoundNode}
@@ -41,14 +40,9 @@ moreIn (answered values) = 0
 moreIn (absent values) = 0
 moreIn (refused n place more) = more
 
-abbrev made : Fault → ℕ → ℕ → Refusal
-made fault place more = record { fault = fault; place = place; more = more }
-
 pub refusal-injective : (r s : Refusal) → refusalMeans r ≡ refusalMeans s → r ≡ s
 unfolding refusalMeans numberIn placeIn moreIn
-refusal-injective r s e =
-    ap (λ (f : Fault). made f (r .place) (r .more)) (number-injective (r .fault) (s .fault) (ap numberIn e))
-    ∙ ap₂ (made (s .fault)) (ap placeIn e) (ap moreIn e)
+refusal-injective r s e = refusal-same r s (ap numberIn e) (ap placeIn e) (ap moreIn e)
 
 -- a refusal to stand where an answer has none
 nothing : Refusal
