@@ -2,6 +2,7 @@ pub mod Children
 pub mod Walk
 pub mod Searched
 pub mod Steps
+pub mod Ways
 pub mod Seeks
 pub mod Demand3
 pub mod Listing

@@ -17,7 +17,7 @@ use Rattle.search.specs.SearchTree.{test, children}
 use Rattle.search.specs.Answer.{refused, answer, counted, inTurn}
 use Rattle.search.specs.Descent.{picked, descend}
 use Rattle.search.proofs.Searched.{Single, nobody, somebody, single, all-from-seat, counted-answer}
-use Rattle.search.proofs.Steps.{counted-none, counted-more, step-refused, step-leaf, step-index, step-none, step-one}
+use Rattle.search.proofs.Steps.{counted-none, step-refused, step-leaf, step-index, step-none}
 use Rattle.search.proofs.Born.{Born, children-born}
 use Rattle.header.specs.Header.{headerFits}
 use Rattle.page.specs.declared.Layout.{Layout}
@@ -80,10 +80,6 @@ module _ (L : Layout) (image : List ℕ) (s : Sought) where
       pub way-none : picked (pageTree L image) s k (children (pageTree L image) (l - 1) p) ≡ [] → Absent (n + 1) ≡ shown L (counted n (descend (pageTree L image) s k l p))
       unfolding counted shown
       way-none e = ap (λ a. shown L (counted n a)) (sym (step-none (pageTree L image) s k p v l h (tested l) q e))
-
-      pub way-one : (c : Link) → picked (pageTree L image) s k (children (pageTree L image) (l - 1) p) ≡ c ∷ []
-          → shown L (counted (n + 1) (descend (pageTree L image) s k (l - 1) c)) ≡ shown L (counted n (descend (pageTree L image) s k l p))
-      way-one c e = ap (shown L) (counted-more n _ ∙ ap (counted n) (sym (step-one (pageTree L image) s k p v l c h (tested l) q e)))
 
   -- where an offset is not allowed, the level plays no part
   any-level : (k : ℕ) (p : Link) (l m : ℕ) → (offsetFits image (p .offset) ≡ true → l ≡ m) → descend (pageTree L image) s k l p ≡ descend (pageTree L image) s k m p

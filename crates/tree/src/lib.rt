@@ -23,10 +23,11 @@ ghost use Rattle.search.specs.Answer.{answer, counted};
 ghost use Rattle.search.specs.Descent.{picked, descend};
 ghost use Rattle.search.specs.Records.{childAt, childrenFrom};
 ghost use Rattle.header.specs.Header.{headerFits};
-ghost use Rattle.page.specs.Layout.{FairLayout, Within, nbt, bbt, shape};
+ghost use Rattle.page.specs.Layout.{FairLayout, Within, nbt, bbt, shape, compared};
 ghost use Rattle.page.specs.Page.{page, countOf, levelOf, entries, keyIn, offsetFits, countsFit, pageFits};
 ghost use Rattle.tree.specs.Tree.{root, linkOf, pageTree, treeFits};
 ghost use Rattle.tree.specs.Lookup.{lookup, next};
+ghost use Rattle.tree.specs.Ways.{startFits, atEnd, Leading, FromRoot, leadsTo};
 ghost use Rattle.tree.specs.Answers.{columnOf, fieldsOf, shown, asNode, nodeOf, asBlock, blockOf, nextNodeOf, nextBlockOf, kidsFrom, chosenOf, nextOf, LevelIs};
 
 // A leaf entry's numbers, without its padding.
@@ -69,6 +70,14 @@ pub struct Listed {
 pub enum FoundBlock {
     Found(Listed, u64),
     Absent(u64),
+    Refused(Refusal),
+}
+
+// Where the way down of a lookup ends, and the count of pages read: at a leaf page; in an index page
+// without an entry to go by; or at a page that is refused.
+pub enum Way {
+    Leaf(Link, u64),
+    Nowhere(u64),
     Refused(Refusal),
 }
 
@@ -247,23 +256,46 @@ fn leaf_for(image: &[u8], l: Layout, p: Link, sought: Sought, key: u64, pages: u
     leaf_answer(l, &image[at..at + 512], p, sought, key, pages)
 }
 
-// The descent from a page of a level, when so many pages have been read.
-fn look(image: &[u8], l: Layout, level: usize, p: Link, key: u64, pages: u64) -> Found
-    requires { ⌜ FairLayout l × LevelIs l (now image) level p × (pages + level ≤ 1000) ⌝ }
-    ensures { λ r. ⌜ r ≡ shown l (counted pages (descend (pageTree l (now (image .entry))) Sought.Equal key level p)) ⌝ }
+// The way down from an accepted page of a level, when so many pages have been read before it.
+fn way_from(image: &[u8], l: Layout, level: usize, p: Link, key: u64, pages: u64) -> Way
+    requires { ⌜ FairLayout l × (pageFits l (now image) p ≡ Verdict.Accepted) × (levelOf l (page (now image) (p .offset)) ≡ level) × (pages + level ≤ 1000) ⌝ }
+    ensures { λ r. ⌜ (atEnd l (now (image .entry)) r key ≡ counted pages (descend (pageTree l (now (image .entry))) Sought.Equal key level p)) × Leading l (now (image .entry)) level p pages r ⌝ }
 {
-    let verdict = verdict_on(image, l, p);
-    if let Verdict::Refused(refusal) = verdict {
-        return Found::Refused(refusal);
-    }
     if level == 0 {
-        return leaf_for(image, l, p, Sought::Equal, key, pages + 1);
+        return Way::Leaf(p, pages + 1);
     }
     let next = child_for(image, l, level - 1, p, key);
     let Next::Here(child) = next else {
-        return Found::Absent(pages + 1);
+        return Way::Nowhere(pages + 1);
     };
-    look(image, l, level - 1, child, key, pages + 1)
+    let verdict = verdict_on(image, l, child);
+    if let Verdict::Refused(refusal) = verdict {
+        return Way::Refused(refusal);
+    }
+    way_from(image, l, level - 1, child, key, pages + 1)
+}
+
+// Whether a way is that of a key too: its leaf page has the key in its range.
+fn leads_to(way: Way, key: u64) -> bool
+    ensures { λ r. ⌜ r ≡ leadsTo way key ⌝ }
+{
+    match way {
+        Way::Leaf(leaf, _) => keys::in_range(leaf.range, key),
+        Way::Nowhere(_) => false,
+        Way::Refused(_) => false,
+    }
+}
+
+// The answer at the end of a way from the root page.
+fn end_of(image: &[u8], l: Layout, way: Way, key: u64) -> Found
+    requires { ⌜ FairLayout l × FromRoot l (now image) way ⌝ }
+    ensures { λ r. ⌜ r ≡ shown l (atEnd l (now (image .entry)) way key) ⌝ }
+{
+    match way {
+        Way::Leaf(leaf, pages) => leaf_for(image, l, leaf, Sought::Equal, key, pages),
+        Way::Nowhere(pages) => Found::Absent(pages),
+        Way::Refused(refusal) => Found::Refused(refusal),
+    }
 }
 
 // The index of the entry with which a listing starts in a page whose counts fit.
@@ -359,14 +391,40 @@ fn check_tree(image: &[u8], l: Layout) -> Verdict
     check_under(image, l, stated_level(image, l, p.offset), p)
 }
 
+// The check of the root page, in an image whose header is accepted.
+fn check_root(image: &[u8], l: Layout) -> Verdict
+    requires { ⌜ FairLayout l × (headerFits (now image) ≡ Verdict.Accepted) ⌝ }
+    ensures { λ r. ⌜ r ≡ startFits l (now (image .entry)) ⌝ }
+{
+    verdict_on(image, l, root_link(image, l))
+}
+
+// The way of a key, where `start` is what came of the header and the root page. A way that was found
+// before is taken again where it leads to the key.
+fn way_to(image: &[u8], l: Layout, start: Verdict, last: Way, key: u64) -> Way
+    requires { ⌜ FairLayout l × (start ≡ startFits l (now image)) × FromRoot l (now image) last ⌝ }
+    ensures { λ r. ⌜ (atEnd l (now (image .entry)) r (compared l key) ≡ lookup l (now (image .entry)) key) × FromRoot l (now (image .entry)) r ⌝ }
+{
+    if let Verdict::Refused(refusal) = start {
+        return Way::Refused(refusal);
+    }
+    let sought = page::compared(l, key);
+    if leads_to(last, sought) {
+        return last;
+    }
+    let p = root_link(image, l);
+    let level = stated_level(image, l, p.offset);
+    way_from(image, l, level, p, sought, 0)
+}
+
 // The lookup of a key in an image whose header is accepted.
 fn find_in(image: &[u8], l: Layout, key: u64) -> Found
     requires { ⌜ FairLayout l × (headerFits (now image) ≡ Verdict.Accepted) ⌝ }
     ensures { λ r. ⌜ r ≡ shown l (lookup l (now (image .entry)) key) ⌝ }
 {
-    let p = root_link(image, l);
-    let level = stated_level(image, l, p.offset);
-    look(image, l, level, p, page::compared(l, key), 0)
+    let start = check_root(image, l);
+    let way = way_to(image, l, start, Way::Nowhere(0), key);
+    end_of(image, l, way, page::compared(l, key))
 }
 
 // The lookup of a key.
@@ -435,6 +493,35 @@ pub fn next_node(image: &[u8], from: u64) -> FoundNode
     ensures { λ r. ⌜ r ≡ nextNodeOf (now (image .entry)) from ⌝ }
 {
     as_node(find_next(image, page::nodes(), from))
+}
+
+// For a call that looks up many nodes: what each lookup tests before it goes down.
+pub fn check_node_start(image: &[u8]) -> Verdict
+    ensures { λ r. ⌜ r ≡ startFits nbt (now (image .entry)) ⌝ }
+{
+    let verdict = header::check_header(image);
+    let Verdict::Accepted = verdict else {
+        return verdict;
+    };
+    check_root(image, page::nodes())
+}
+
+// The way of a node, where `start` is what came of that; the way of a node before it is taken again
+// where it leads to this one.
+pub fn way_to_node(image: &[u8], start: Verdict, last: Way, node: u64) -> Way
+    requires { ⌜ (start ≡ startFits nbt (now image)) × FromRoot nbt (now image) last ⌝ }
+    ensures { λ r. ⌜ (atEnd nbt (now (image .entry)) r (compared nbt node) ≡ lookup nbt (now (image .entry)) node) × FromRoot nbt (now (image .entry)) r ⌝ }
+{
+    way_to(image, page::nodes(), start, last, node)
+}
+
+// The node at the end of its way.
+pub fn node_at(image: &[u8], way: Way, node: u64) -> FoundNode
+    requires { ⌜ FromRoot nbt (now image) way × (atEnd nbt (now image) way (compared nbt node) ≡ lookup nbt (now image) node) ⌝ }
+    ensures { λ r. ⌜ r ≡ nodeOf (now (image .entry)) node ⌝ }
+{
+    let l = page::nodes();
+    as_node(end_of(image, l, way, page::compared(l, node)))
 }
 
 fn as_block(found: Found) -> FoundBlock
