@@ -14,6 +14,7 @@ use Rattle.tree.specs.declared.FoundNode.{FoundNode}
 use Rattle.tree.specs.declared.FoundBlock.{FoundBlock}
 use Rattle.tree.specs.Tree.{treeFits}
 use Rattle.tree.specs.Answers.{nodeOf, blockOf, nextNodeOf, nextBlockOf}
+use Rattle.nodelist.specs.Places.{listFits, areaOf}
 use Rattle.block.specs.declared.Sized.{Sized}
 use Rattle.block.specs.Block.{room, testOf, readOf, filledOf}
 use Rattle.node.specs.declared.NodeRead.{NodeRead}
@@ -24,7 +25,7 @@ use Rattle.heap.specs.Items.{itemTest, itemSpan}
 use Rattle.property.specs.declared.Property.{Property}
 use Rattle.property.specs.Lookup.{property}
 use Rattle.pst.specs.Meaning.{verdictMeans, headerMeans, nodeMeans, blockMeans, sizedMeans, dataMeans, spanMeans, propertyMeans}
-use Rattle.pst.specs.Outcomes.{headerOutcome, nodesOutcome, blocksOutcome, nodeOutcome, blockOutcome, nextNodeOutcome, nextBlockOutcome, testOutcome, readOutcome, dataOutcome, codeOutcome, heapOutcome, testItemOutcome, spanOutcome, propertyOutcome, readBuffer, dataBuffer, encodeBuffer, decodeBuffer, checksumOutcome, signatureOutcome, roomOutcome}
+use Rattle.pst.specs.Outcomes.{headerOutcome, nodesOutcome, blocksOutcome, nodeOutcome, listOutcome, listArea, blockOutcome, nextNodeOutcome, nextBlockOutcome, testOutcome, readOutcome, dataOutcome, codeOutcome, heapOutcome, testItemOutcome, spanOutcome, propertyOutcome, readBuffer, dataBuffer, encodeBuffer, decodeBuffer, checksumOutcome, signatureOutcome, roomOutcome}
 use Rattle.pst.proofs.Injective.{verdict-injective, header-injective, node-injective, block-injective, sized-injective, data-injective, span-injective, property-injective}
 
 pub header-is : (image : List ℕ) (answer : HeaderAnswer) → headerMeans answer ≡ headerOutcome image → answer ≡ headerOf image
@@ -42,6 +43,10 @@ blocks-is image answer e = verdict-injective answer _ e
 pub node-is : (image : List ℕ) (node : ℕ) (answer : FoundNode) → nodeMeans answer ≡ nodeOutcome image node → answer ≡ nodeOf image node
 unfolding nodeOutcome
 node-is image node answer e = node-injective answer _ e
+
+pub list-is : (nodes area : List ℕ) (answer : Verdict) → verdictMeans answer ≡ listOutcome nodes area → answer ≡ listFits (length nodes) (length area)
+unfolding listOutcome
+list-is nodes area answer e = verdict-injective answer _ e
 
 pub block-is : (image : List ℕ) (block : ℕ) (answer : FoundBlock) → blockMeans answer ≡ blockOutcome image block → answer ≡ blockOf image block
 unfolding blockOutcome
@@ -88,6 +93,10 @@ unfolding propertyOutcome
 property-is block id answer e = property-injective answer _ e
 
 -- the buffers at exit, and the calls that answer a number
+pub list-area-is : (image nodes area : List ℕ) → listArea image nodes area ≡ areaOf image nodes area
+unfolding listArea
+list-area-is image nodes area = refl
+
 pub read-buffer-is : (image : List ℕ) (block : ℕ) (out : List ℕ) → readBuffer image block out ≡ filledOf image block out
 unfolding readBuffer
 read-buffer-is image block out = refl

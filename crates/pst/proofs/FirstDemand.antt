@@ -14,6 +14,7 @@ use Rattle.tree.specs.Tree.{treeRules, treeFits}
 use Rattle.tree.specs.Lookup.{searchRules}
 use Rattle.tree.specs.Answers.{nodeOf, blockOf, nextNodeOf, nextBlockOf}
 use Rattle.tree.proofs.InOrder.{search-tried}
+use Rattle.nodelist.specs.Places.{listRules, listFits}
 use Rattle.block.specs.Tried.{testRules, readRules}
 use Rattle.block.proofs.TriedLaws.{size-tried, read-tried}
 use Rattle.node.specs.Tried.{dataRules}
@@ -23,10 +24,10 @@ use Rattle.heap.specs.Items.{itemRules, itemTest, itemSpan}
 use Rattle.property.specs.Lookup.{propertyRules}
 use Rattle.property.proofs.TriedLaws.{property-refused-exactly}
 use Rattle.pst.specs.Meaning.{verdictMeans, headerMeans, nodeMeans, blockMeans, sizedMeans, dataMeans, spanMeans, propertyMeans}
-use Rattle.pst.specs.Outcomes.{headerOutcome, nodesOutcome, blocksOutcome, nodeOutcome, blockOutcome, nextNodeOutcome, nextBlockOutcome, testOutcome, readOutcome, dataOutcome, codeOutcome, heapOutcome, testItemOutcome, spanOutcome, propertyOutcome}
+use Rattle.pst.specs.Outcomes.{headerOutcome, nodesOutcome, blocksOutcome, nodeOutcome, listOutcome, blockOutcome, nextNodeOutcome, nextBlockOutcome, testOutcome, readOutcome, dataOutcome, codeOutcome, heapOutcome, testItemOutcome, spanOutcome, propertyOutcome}
 use Rattle.pst.specs.Demands.{Told, methodRules, FirstDemand}
 use Rattle.pst.proofs.Refusals.{verdict-told, header-verdict, header-told, node-told, block-told, sized-told, data-told, span-told, property-told}
-use Rattle.pst.proofs.Untouched.{read-untouched, data-untouched, encode-untouched, decode-untouched}
+use Rattle.pst.proofs.Untouched.{list-untouched, read-untouched, data-untouched, encode-untouched, decode-untouched}
 
 header-call : (image : List ℕ) → Told headerMeans (headerRules image) (headerOutcome image)
 unfolding headerOutcome headerOf headerFits
@@ -43,6 +44,10 @@ blocks-call image = verdict-told _ (treeRules bbt image) refl
 find-node-call : (image : List ℕ) (node : ℕ) → Told nodeMeans (searchRules Equal nbt image node) (nodeOutcome image node)
 unfolding nodeOutcome nodeOf
 find-node-call image node = node-told nbt _ (searchRules Equal nbt image node) (search-tried Equal nbt image node)
+
+find-nodes-call : (nodes area : List ℕ) → Told verdictMeans (listRules (length nodes) (length area)) (listOutcome nodes area)
+unfolding listOutcome listFits
+find-nodes-call nodes area = verdict-told _ (listRules (length nodes) (length area)) refl
 
 find-block-call : (image : List ℕ) (block : ℕ) → Told blockMeans (searchRules Equal bbt image block) (blockOutcome image block)
 unfolding blockOutcome blockOf
@@ -100,6 +105,7 @@ first-demand =
       check-nodes = nodes-call;
       check-blocks = blocks-call;
       find-node = find-node-call;
+      find-nodes = find-nodes-call;
       find-block = find-block-call;
       next-node = next-node-call;
       next-block = next-block-call;
@@ -111,6 +117,7 @@ first-demand =
       test-item = test-item-call;
       find-item = find-item-call;
       find-property = property-call;
+      find-nodes-leaves = list-untouched;
       read-block-leaves = read-untouched;
       read-node-leaves = data-untouched;
       encode-leaves = encode-untouched;

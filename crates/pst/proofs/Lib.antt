@@ -9,3 +9,4 @@ pub mod SecondDemand
 pub mod ThirdDemand
 pub mod FirstRequest
 pub mod SecondRequest
+pub mod ThirdRequest

@@ -15,6 +15,8 @@ use Rattle.pst.proofs.check_blocks.Reads as check-blocks
 use Rattle.pst.proofs.check_blocks.Kinds as check-blocks-kinds
 use Rattle.pst.proofs.find_node.Reads as find-node
 use Rattle.pst.proofs.find_node.Kinds as find-node-kinds
+use Rattle.pst.proofs.find_nodes.Reads as find-nodes
+use Rattle.pst.proofs.find_nodes.Kinds as find-nodes-kinds
 use Rattle.pst.proofs.find_block.Reads as find-block
 use Rattle.pst.proofs.find_block.Kinds as find-block-kinds
 use Rattle.pst.proofs.next_node.Reads as next-node
@@ -64,6 +66,11 @@ check-blocks-single κs a x y s t p q = verdict-injective x y (p ∙ sym q)
 
 find-node-single : Single 1 find-node-kinds.ps find-node-kinds.r find-node.Post
 find-node-single κs a x y s t p q = node-injective x y (p ∙ sym q)
+
+-- every word of the area
+find-nodes-single : (κs : Lfts 3) (a : Dens κs find-nodes-kinds.ps) (x y : resT find-nodes-kinds.r κs .Denot) (s t : AtExit (endedOf 3 find-nodes-kinds.ps find-nodes-kinds.r) κs)
+    → find-nodes.Post κs a x s → find-nodes.Post κs a y t → (x ≡ y) × (now (s .1 .1 .0) ≡ now (t .1 .1 .0))
+find-nodes-single κs a x y s t p q = (verdict-injective x y (p .0 ∙ sym (q .0)), p .1 ∙ sym (q .1))
 
 find-block-single : Single 1 find-block-kinds.ps find-block-kinds.r find-block.Post
 find-block-single κs a x y s t p q = block-injective x y (p ∙ sym q)

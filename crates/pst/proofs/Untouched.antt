@@ -1,6 +1,6 @@
 -- Document 01, "Refusal numbers": a refusal "leaves every output buffer untouched". Assumes nothing.
 use Prim.Native.Nat.{ℕ, _<_}
-use mathlib.Core.Path.{_≡_, refl}
+use mathlib.Core.Path.{_≡_, refl, sym}
 use mathlib.Core.Bool.{Bool, true, false, cond}
 use mathlib.Core.List.{List}
 use native.Mathlib.Omega.{arith}
@@ -8,11 +8,15 @@ use lib.Dec.{leb}
 use lib.ListN.{length}
 use borrow.Author.Tests.{leb-false}
 use Rattle.laws.proofs.Tests.{not-both}
+use Rattle.refusal.specs.declared.Verdict.{Verdict}
+use Rattle.refusal.specs.declared.Verdict.the-variants.{Accepted, Refused}
 use Rattle.refusal.specs.declared.Fault.the-variants.{Encoding, ShortBuffer}
 use Rattle.refusal.specs.Order.{_at_, _needing_, demand}
 use Rattle.coding.specs.Coding.{methodFits, coded}
 use Rattle.coding.specs.Table.{R, I}
 use Rattle.coding.proofs.CodingLaws.{coded-none}
+use Rattle.nodelist.specs.Places.{listFits, areaOf}
+use Rattle.nodelist.proofs.ListLaws.{area-left}
 use Rattle.block.specs.declared.Checked.{Checked}
 use Rattle.block.specs.declared.Checked.the-variants as checked
 use Rattle.block.specs.declared.Sized.the-variants as sized
@@ -22,7 +26,7 @@ use Rattle.node.specs.Content.{Content, nodeContent, answerTo, filledBy}
 use Rattle.node.specs.Content as content
 use Rattle.node.specs.declared.NodeRead.the-variants as read
 use Rattle.pst.specs.Meaning.{refuses, verdictMeans, sizedMeans, dataMeans}
-use Rattle.pst.specs.Outcomes.{readOutcome, readBuffer, dataOutcome, dataBuffer, codeOutcome, encodeBuffer, decodeBuffer}
+use Rattle.pst.specs.Outcomes.{listOutcome, listArea, readOutcome, readBuffer, dataOutcome, dataBuffer, codeOutcome, encodeBuffer, decodeBuffer}
 
 checked-untouched : (image : List ℕ) (c : Checked) (out : List ℕ) → refuses (sizedMeans (readIn c (length out))) ≡ true → filledIn image c out ≡ out
 unfolding refuses sizedMeans readIn fitting filledIn
@@ -51,6 +55,14 @@ content-untouched (content.refused r) out e = refl
 pub data-untouched : (image : List ℕ) (node : ℕ) (out : List ℕ) → refuses (dataOutcome image node out) ≡ true → dataBuffer image node out ≡ out
 unfolding dataOutcome dataBuffer
 data-untouched image node out e = content-untouched (nodeContent image node) out e
+
+pub list-untouched : (image nodes area : List ℕ) → refuses (listOutcome nodes area) ≡ true → listArea image nodes area ≡ area
+unfolding listOutcome listArea refuses verdictMeans
+list-untouched image nodes area = by (listFits (length nodes) (length area)) refl
+  where
+    by : (v : Verdict) → listFits (length nodes) (length area) ≡ v → refuses (verdictMeans v) ≡ true → areaOf image nodes area ≡ area
+    by Accepted q h = not-both false h refl
+    by (Refused r) q h = sym (area-left image nodes area r (sym q))
 
 over-two : (method : ℕ) → refuses (codeOutcome method) ≡ true → 2 < method
 unfolding refuses codeOutcome verdictMeans methodFits demand

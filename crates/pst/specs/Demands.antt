@@ -1,16 +1,16 @@
 -- The user's three demands, of the outcomes of the public calls alone; and what the requests of 02 add to them, of those outcomes and of pages. Assumes nothing: these are definitions.
 --
 -- The contract of a call says: what the answer means is the outcome that pst/specs/Outcomes names, and each buffer at exit is the one named there. What holds of every
--- outcome so holds of every call. Proved in pst/proofs/FirstDemand, SecondDemand, ThirdDemand, FirstRequest and SecondRequest.
-use Prim.Native.Nat.{ℕ, _+_, _*_, _≤_}
+-- outcome so holds of every call. Proved in pst/proofs/FirstDemand, SecondDemand, ThirdDemand, FirstRequest, SecondRequest and ThirdRequest.
+use Prim.Native.Nat.{ℕ, _+_, _*_, _/_, _≤_, _<_}
 use mathlib.Core.Path.{_≡_}
 use mathlib.Core.Bool.{true, false}
 use mathlib.Core.Logic.{_↔_, _⊎_}
 use mathlib.Core.Option.{Option}
 use mathlib.Core.List.{List, [], _∷_, _++_, map}
 use lib.Dec.{leb}
-use lib.ListN.{length}
-use Rattle.le.specs.Bytes.{Bytes}
+use lib.ListN.{length, getD, drop}
+use Rattle.le.specs.Bytes.{part, Bytes}
 use Rattle.refusal.specs.declared.Refusal.{Refusal}
 use Rattle.refusal.specs.declared.Fault.the-variants.{Encoding, KeyRange}
 use Rattle.refusal.specs.declared.Verdict.the-variants.{Refused}
@@ -32,6 +32,8 @@ use Rattle.page.specs.Layout.{nbt, bbt, asGiven, compared}
 use Rattle.page.specs.Page.{numberIn, keyIn, pageFits}
 use Rattle.page.specs.KeyFaults.{KeyFaultsTold}
 use Rattle.tree.specs.declared.Listed.{Listed}
+use Rattle.tree.specs.declared.FoundNode.{FoundNode}
+use Rattle.tree.specs.declared.FoundNode.the-variants as node
 use Rattle.tree.specs.declared.FoundBlock.the-variants as block
 use Rattle.tree.specs.Tree.{root, rootLevel, treeRules, scan, allRoutes}
 use Rattle.tree.specs.Lookup.{path, searchRules, pagesRead}
@@ -41,6 +43,7 @@ use Rattle.tree.specs.KeyFaults.{OfKeys, KeyFault}
 use Rattle.tree.specs.Demand3.{AgreeOnPath, AgreeOnRead}
 use Rattle.tree.specs.Listing.{TreeLists}
 use Rattle.laws.specs.Front.{fronted}
+use Rattle.nodelist.specs.Places.{nodeWords, listRules}
 use Rattle.block.specs.Block.{trailer64, blockBytes}
 use Rattle.block.specs.Sound.{BlockSound}
 use Rattle.block.specs.Tried.{testRules, readRules}
@@ -54,8 +57,8 @@ use Rattle.heaptree.specs.Sound.{BranchSound}
 use Rattle.property.specs.Context.{properties, Context, contextRules}
 use Rattle.property.specs.Lookup.{propertyFrom, propertyRules}
 use Rattle.property.specs.Scan.{PropertiesSound, idOf, propertyRecords}
-use Rattle.pst.specs.Meaning.{Meaning, answered, absent, refuses, refusalMeans, verdictMeans, headerMeans, nodeMeans, blockMeans, sizedMeans, dataMeans, spanMeans, propertyMeans}
-use Rattle.pst.specs.Outcomes.{headerOutcome, nodesOutcome, blocksOutcome, nodeOutcome, blockOutcome, nextNodeOutcome, nextBlockOutcome, testOutcome, readOutcome, readBuffer, dataOutcome, dataBuffer, codeOutcome, encodeBuffer, decodeBuffer, heapOutcome, testItemOutcome, itemOutcome, spanOutcome, propertyOutcome}
+use Rattle.pst.specs.Meaning.{Meaning, answered, absent, refused, refuses, refusalMeans, verdictMeans, headerMeans, nodeMeans, blockMeans, sizedMeans, dataMeans, spanMeans, propertyMeans}
+use Rattle.pst.specs.Outcomes.{headerOutcome, nodesOutcome, blocksOutcome, nodeOutcome, listOutcome, listArea, blockOutcome, nextNodeOutcome, nextBlockOutcome, testOutcome, readOutcome, readBuffer, dataOutcome, dataBuffer, codeOutcome, encodeBuffer, decodeBuffer, heapOutcome, testItemOutcome, itemOutcome, spanOutcome, propertyOutcome}
 
 -- Demand 1 of one call: its answers, by what they mean; the rules that it tries, in their order; its outcome
 pub record Told {A : Type 0} (means : A → Meaning) (rules : List Rule) (outcome : Meaning) : Type 0 where
@@ -77,6 +80,7 @@ pub record FirstDemand : Type 0 where
   pub check-nodes : (image : List ℕ) → Told verdictMeans (treeRules nbt image) (nodesOutcome image)
   pub check-blocks : (image : List ℕ) → Told verdictMeans (treeRules bbt image) (blocksOutcome image)
   pub find-node : (image : List ℕ) (node : ℕ) → Told nodeMeans (searchRules Equal nbt image node) (nodeOutcome image node)
+  pub find-nodes : (nodes area : List ℕ) → Told verdictMeans (listRules (length nodes) (length area)) (listOutcome nodes area)
   pub find-block : (image : List ℕ) (block : ℕ) → Told blockMeans (searchRules Equal bbt image block) (blockOutcome image block)
   pub next-node : (image : List ℕ) (from : ℕ) → Told nodeMeans (searchRules AtLeast nbt image from) (nextNodeOutcome image from)
   pub next-block : (image : List ℕ) (from : ℕ) → Told blockMeans (searchRules AtLeast bbt image from) (nextBlockOutcome image from)
@@ -88,6 +92,7 @@ pub record FirstDemand : Type 0 where
   pub test-item : (block : List ℕ) (item : ℕ) → Told verdictMeans (itemRules block item) (testItemOutcome block item)
   pub find-item : (block : List ℕ) (item : ℕ) → Told spanMeans (itemRules block item) (spanOutcome block item)
   pub find-property : (block : List ℕ) (id : ℕ) → Told propertyMeans (propertyRules block id) (propertyOutcome block id)
+  pub find-nodes-leaves : (image nodes area : List ℕ) → Untouched (listOutcome nodes area) area (listArea image nodes area)
   pub read-block-leaves : (image : List ℕ) (block : ℕ) (out : List ℕ) → Untouched (readOutcome image block out) out (readBuffer image block out)
   pub read-node-leaves : (image : List ℕ) (node : ℕ) (out : List ℕ) → Untouched (dataOutcome image node out) out (dataBuffer image node out)
   pub encode-leaves : (method block : ℕ) (bytes : List ℕ) → Untouched (codeOutcome method) bytes (encodeBuffer method block bytes)
@@ -209,6 +214,34 @@ pub record SecondRequest : Type 0 where
   pub test-block : (image : List ℕ) (block : ℕ) → KeysTold (KeyFault bbt image) (testOutcome image block)
   pub read-block : (image : List ℕ) (block : ℕ) (out : List ℕ) → KeysTold (KeyFault bbt image) (readOutcome image block out)
   pub read-node : (image : List ℕ) (node : ℕ) (out : List ℕ) → KeysTold (λ r. KeyFault nbt image r ⊎ KeyFault bbt image r) (dataOutcome image node out)
+
+-- Request 3/13: a list of nodes in one call. The nine words of the i-th place of an area
+abbrev pub placeIn : List ℕ → ℕ → List ℕ
+placeIn area i = part area (9 * i) 9
+
+pub record ThirdRequest : Type 0 where
+  -- taken exactly when it has at most 4,096 numbers and the area as many places, of nine words each
+  pub taken : (nodes area : List ℕ) → (listOutcome nodes area ≡ answered []) ↔ ((length nodes ≤ 4096) × (length nodes ≤ length area / 9))
+  -- "A list over 4,096 (length returned 4,096), then a result area shorter than the list (length returned the list's), is refused with 17, place 0"
+  pub too-long : (nodes area : List ℕ) → 4096 < length nodes → listOutcome nodes area ≡ refused 17 0 4096
+  pub too-short : (nodes area : List ℕ) → length nodes ≤ 4096 → length area / 9 < length nodes → listOutcome nodes area ≡ refused 17 0 (length nodes)
+  -- "every place in the result equals what the single lookup gives for that number": its words are those of that answer and of no other
+  pub places : (image nodes area : List ℕ) (i : ℕ) (given : FoundNode) → listOutcome nodes area ≡ answered [] → i < length nodes
+      → (placeIn (listArea image nodes area) i ≡ nodeWords given) ↔ (nodeMeans given ≡ nodeOutcome image (getD nodes i 0))
+  -- "Results past the list stay", in any call at all
+  pub past-the-list : (image nodes area : List ℕ) → drop (9 * length nodes) (listArea image nodes area) ≡ drop (9 * length nodes) area
+  pub same-length : (image nodes area : List ℕ) → length (listArea image nodes area) ≡ length area
+  -- "Repeated numbers are allowed"
+  pub repeated : (image nodes area : List ℕ) (i j : ℕ) → listOutcome nodes area ≡ answered [] → i < length nodes → j < length nodes → getD nodes i 0 ≡ getD nodes j 0
+      → placeIn (listArea image nodes area) i ≡ placeIn (listArea image nodes area) j
+  -- an empty list is answered, and what the image holds plays no part
+  pub empty : (image area : List ℕ) → (listOutcome [] area ≡ answered []) × (listArea image [] area ≡ area)
+  -- a refused header stands in every place
+  pub header-refused : (image nodes area : List ℕ) (i : ℕ) (r : Refusal) → headerOutcome image ≡ refusalMeans r → listOutcome nodes area ≡ answered [] → i < length nodes
+      → placeIn (listArea image nodes area) i ≡ nodeWords (node.Refused r)
+  -- where the node tree is accepted no place tells a refusal
+  pub never-refused : (image nodes area : List ℕ) (i : ℕ) → nodesOutcome image ≡ answered [] → listOutcome nodes area ≡ answered [] → i < length nodes
+      → getD (listArea image nodes area) (9 * i) 0 ≡ 0
 
 -- Beyond the demands: the listings of one tree. The entry or absent, with some count
 pub record FirstFrom (says : Answer (List ℕ) → Meaning) (outcome : Meaning) (entry : Option (List ℕ)) : Type 0 where

@@ -9,6 +9,7 @@ use Rattle.page.specs.Layout.{nbt, bbt}
 use Rattle.page.specs.Page.{signature}
 use Rattle.tree.specs.Tree.{treeFits}
 use Rattle.tree.specs.Answers.{nodeOf, blockOf, nextNodeOf, nextBlockOf}
+use Rattle.nodelist.specs.Places.{listFits, areaOf}
 use Rattle.block.specs.Block.{room, testOf, readOf, filledOf}
 use Rattle.node.specs.Content.{nodeContent, answerTo, filledBy}
 use Rattle.heap.specs.Shape.{heapTest}
@@ -32,6 +33,13 @@ nodeOutcome image node = nodeMeans (nodeOf image node)
 
 unfoldable pub blockOutcome : List ℕ → ℕ → Meaning
 blockOutcome image block = blockMeans (blockOf image block)
+
+-- a list of nodes, document 02, 3/13: whether it is taken; and the area
+unfoldable pub listOutcome : List ℕ → List ℕ → Meaning
+listOutcome nodes area = verdictMeans (listFits (length nodes) (length area))
+
+unfoldable pub listArea : List ℕ → List ℕ → List ℕ → List ℕ
+listArea image nodes area = areaOf image nodes area
 
 -- the listings, which go beyond document 01
 unfoldable pub nextNodeOutcome : List ℕ → ℕ → Meaning

@@ -9,7 +9,7 @@ use tree::FoundBlock;
 use tree::FoundNode;
 ghost use mathlib.Core.Path.{_≡_};
 ghost use Rattle.pst.specs.Meaning.{verdictMeans, headerMeans, nodeMeans, blockMeans, sizedMeans, dataMeans, spanMeans, propertyMeans};
-ghost use Rattle.pst.specs.Outcomes.{headerOutcome, nodesOutcome, blocksOutcome, nodeOutcome, blockOutcome, nextNodeOutcome, nextBlockOutcome, testOutcome, readOutcome, readBuffer, dataOutcome, dataBuffer, codeOutcome, encodeBuffer, decodeBuffer, heapOutcome, testItemOutcome, itemOutcome, spanOutcome, propertyOutcome, checksumOutcome, signatureOutcome, roomOutcome};
+ghost use Rattle.pst.specs.Outcomes.{headerOutcome, nodesOutcome, blocksOutcome, nodeOutcome, listOutcome, listArea, blockOutcome, nextNodeOutcome, nextBlockOutcome, testOutcome, readOutcome, readBuffer, dataOutcome, dataBuffer, codeOutcome, encodeBuffer, decodeBuffer, heapOutcome, testItemOutcome, itemOutcome, spanOutcome, propertyOutcome, checksumOutcome, signatureOutcome, roomOutcome};
 
 // What the header says.
 pub fn header(image: &[u8]) -> HeaderAnswer
@@ -37,6 +37,14 @@ pub fn find_node(image: &[u8], node: u64) -> FoundNode
     ensures { λ r. ⌜ nodeMeans r ≡ nodeOutcome (now (image .entry)) node ⌝ }
 {
     tree::find_node(image, node)
+}
+
+// A list of at most 4,096 nodes, each as by `find_node`; of each answer the nine words go into its place.
+pub fn find_nodes(image: &[u8], nodes: &[u64], places: &mut [u64]) -> Verdict
+    ensures answer { λ r. ⌜ verdictMeans r ≡ listOutcome (now (nodes .entry)) (now (places .entry)) ⌝ }
+    ensures area { λ _. ⌜ now (places .exit) ≡ listArea (now (image .entry)) (now (nodes .entry)) (now (places .entry)) ⌝ }
+{
+    nodelist::find_nodes(image, nodes, places)
 }
 
 // A block by its number.

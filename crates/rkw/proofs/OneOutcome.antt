@@ -13,6 +13,8 @@ use Rattle.rkw.proofs.rkw_check_blocks.Reads as check-blocks
 use Rattle.rkw.proofs.rkw_check_blocks.Kinds as check-blocks-kinds
 use Rattle.rkw.proofs.rkw_find_node.Reads as find-node
 use Rattle.rkw.proofs.rkw_find_node.Kinds as find-node-kinds
+use Rattle.rkw.proofs.rkw_find_nodes.Reads as find-nodes
+use Rattle.rkw.proofs.rkw_find_nodes.Kinds as find-nodes-kinds
 use Rattle.rkw.proofs.rkw_find_block.Reads as find-block
 use Rattle.rkw.proofs.rkw_find_block.Kinds as find-block-kinds
 use Rattle.rkw.proofs.rkw_next_node.Reads as next-node
@@ -55,6 +57,10 @@ check-blocks-single κs a x y s t p q = p ∙ sym q
 
 find-node-single : Single 1 find-node-kinds.ps find-node-kinds.r find-node.Post
 find-node-single κs a x y s t p q = p ∙ sym q
+
+find-nodes-single : (κs : Lfts 3) (a : Dens κs find-nodes-kinds.ps) (x y : resT find-nodes-kinds.r κs .Denot) (s t : AtExit (endedOf 3 find-nodes-kinds.ps find-nodes-kinds.r) κs)
+    → find-nodes.Post κs a x s → find-nodes.Post κs a y t → (x ≡ y) × (now (s .1 .1 .0) ≡ now (t .1 .1 .0))
+find-nodes-single κs a x y s t p q = (p .0 ∙ sym (q .0), p .1 ∙ sym (q .1))
 
 find-block-single : Single 1 find-block-kinds.ps find-block-kinds.r find-block.Post
 find-block-single κs a x y s t p q = p ∙ sym q

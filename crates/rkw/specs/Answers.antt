@@ -1,14 +1,16 @@
 -- The struct that the C face answers for each case of an answer: refusal is document 01's number, 0 where answered; fields that a case does not use are 0. Assumes nothing: these are definitions.
 use Prim.Native.Nat.{ℕ}
+use mathlib.Core.List.{List}
+use lib.ListN.{getD}
 use Rattle.refusal.specs.declared.Verdict.{Verdict}
 use Rattle.refusal.specs.declared.Verdict.the-variants as verdict
 use Rattle.refusal.specs.Number.{number}
 use Rattle.header.specs.declared.HeaderAnswer.{HeaderAnswer}
 use Rattle.header.specs.declared.HeaderAnswer.the-variants as header
 use Rattle.tree.specs.declared.FoundNode.{FoundNode}
-use Rattle.tree.specs.declared.FoundNode.the-variants as node
 use Rattle.tree.specs.declared.FoundBlock.{FoundBlock}
 use Rattle.tree.specs.declared.FoundBlock.the-variants as block
+use Rattle.nodelist.specs.Places.{nodeWords}
 use Rattle.block.specs.declared.Sized.{Sized}
 use Rattle.block.specs.declared.Sized.the-variants as sized
 use Rattle.node.specs.declared.NodeRead.{NodeRead}
@@ -70,21 +72,24 @@ noNode refusal place more pages =
       parent = 0;
     }
 
-unfoldable pub nodeAnswer : FoundNode → RkwNode
-nodeAnswer (node.Found n pages) =
+-- the struct of a place's nine words, in their order
+abbrev pub ofWords : List ℕ → RkwNode
+ofWords words =
     record {
-      refusal = 0;
-      place = 0;
-      more = 0;
-      found = 1;
-      pages = pages;
-      node = n .node;
-      «data» = n .block;
-      subnode = n .subnode;
-      parent = n .parent;
+      refusal = getD words 0 0;
+      place = getD words 1 0;
+      more = getD words 2 0;
+      found = getD words 3 0;
+      pages = getD words 4 0;
+      node = getD words 5 0;
+      «data» = getD words 6 0;
+      subnode = getD words 7 0;
+      parent = getD words 8 0;
     }
-nodeAnswer (node.Absent pages) = noNode 0 0 0 pages
-nodeAnswer (node.Refused r) = noNode (number (r .fault)) (r .place) (r .more) 0
+
+-- the same words as in a list of nodes
+unfoldable pub nodeAnswer : FoundNode → RkwNode
+nodeAnswer answer = ofWords (nodeWords answer)
 
 -- no block: absent after so many pages, or refused
 abbrev pub noBlock : ℕ → ℕ → ℕ → ℕ → RkwBlock

@@ -18,6 +18,7 @@ ghost use Rattle.page.specs.Layout.{nbt, bbt};
 ghost use Rattle.page.specs.Page.{signature};
 ghost use Rattle.tree.specs.Tree.{treeFits};
 ghost use Rattle.tree.specs.Answers.{nodeOf, blockOf, nextNodeOf, nextBlockOf};
+ghost use Rattle.nodelist.specs.Places.{listFits, areaOf};
 ghost use Rattle.block.specs.Block.{room, testOf, readOf, filledOf};
 ghost use Rattle.node.specs.Content.{nodeContent, answerTo, filledBy};
 ghost use Rattle.heap.specs.Shape.{heapTest};
@@ -394,6 +395,14 @@ pub extern "C" fn rkw_find_node(image: &[u8], node: u64) -> RkwNode
     ensures { λ r. ⌜ r ≡ nodeAnswer (nodeOf (now (image .entry)) node) ⌝ }
 {
     node_answer(pst::find_node(image, node))
+}
+
+#[no_mangle]
+pub extern "C" fn rkw_find_nodes(image: &[u8], nodes: &[u64], places: &mut [u64]) -> RkwVerdict
+    ensures answer { λ r. ⌜ r ≡ verdictAnswer (listFits (length (now (nodes .entry))) (length (now (places .entry)))) ⌝ }
+    ensures area { λ _. ⌜ now (places .exit) ≡ areaOf (now (image .entry)) (now (nodes .entry)) (now (places .entry)) ⌝ }
+{
+    verdict_answer(pst::find_nodes(image, nodes, places))
 }
 
 #[no_mangle]
