@@ -14,11 +14,14 @@ returns c =
     (c .short-area .ensures ∙ e, area-left (a .image .now) (a .nodes .now) (a .places .now) _ e)
 
 -- fewer places than numbers
+short-area-requires-2 : tie.Need-short-area-requires-2
+short-area-requires-2 c κs = search needs
+
 returns-2 : tie.Need-returns-2
 returns-2 c =
-    let a = c .before .before .before .before .before .before .args in
-    let e = too-short (length (a .nodes .now)) (length (a .places .now)) (omega arith) (omega arith) in
-    (c .short-area2 .ensures ∙ e, area-left (a .image .now) (a .nodes .now) (a .places .now) _ e)
+    let lent = c .before .before .before .before .before .before .args in
+    let e = too-short (length (lent .nodes .now)) (length (lent .places .now)) (omega arith) (omega arith) in
+    (c .short-area2 .ensures ∙ e, area-left (lent .image .now) (lent .nodes .now) (lent .places .now) _ e)
 
 returns-3 : tie.Need-returns-3
 returns-3 c =
@@ -39,7 +42,7 @@ find-nodes-spec =
     (tie.spec
     (λ c κs. search needs)
     returns
-    (λ c κs. search needs)
+    short-area-requires-2
     returns-2
     (λ c κs. (omega arith, omega arith))
     (λ c. search needs)

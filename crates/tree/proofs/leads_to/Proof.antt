@@ -1,4 +1,5 @@
-use mathlib.Core.Path.{_∙_}
+use mathlib.Core.Path.{sym, ap, _∙_}
+use Rattle.tree.specs.declared.Way.{Way}
 use Rattle.tree.specs.Ways.{leadsTo}
 use borrow.Author.Needs.{needs}
 use Rattle.tree.proofs.leads_to.Statement.{statement}
@@ -6,7 +7,7 @@ use Rattle.tree.proofs.leads_to.Tie as tie
 
 returns : tie.Need-returns
 unfolding leadsTo
-returns c = c .in-range .ensures ∙ rw (c .before .before .way .given .1)
+returns c = c .in-range .ensures ∙ ap (λ (w : Way). leadsTo w (c .before .before .before .before .args .key)) (sym (c .before .before .way .given .1))
 
 returns-2 : tie.Need-returns-2
 unfolding leadsTo
