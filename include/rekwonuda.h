@@ -44,7 +44,9 @@
  *   14  the trailer of a block is wrong; the block's offset
  *   15  the checksum of a block differs; the block's offset
  *   16  the shape of a data tree is wrong; the offset of its root block
- *   17  the buffer is shorter than the data; 0, and `more` is the length needed
+ *   17  the buffer is shorter than the data; 0, and `more` is the length needed. From rkw_find_nodes:
+ *       the list is over 4,096 numbers; 0, and `more` is 4,096; or the area has fewer places than
+ *       the list has numbers; 0, and `more` is how many it has
  *   18  the shape of a heap is wrong; 0
  *   19  the number of a heap item is wrong; 0
  *   20  the shape of a property tree is wrong; 0
@@ -138,6 +140,17 @@ struct rkw_answer rkw_check_blocks(const uint8_t *image, size_t len);
 /* Looks up a node by the low four bytes of its number. The header and every page on the way are
  * checked in full. Refusals 1 to 11, and 21. */
 struct rkw_node_answer rkw_find_node(const uint8_t *image, size_t len, uint64_t node);
+
+/* Looks up a list of `count` nodes, at most 4,096, each as rkw_find_node does, and puts the answers
+ * into `places`: the i-th number's answer is the i-th place. A place is nine words, those of a struct
+ * rkw_node_answer in its order, so that an area of such structs can be lent; an area of `words` words
+ * has words / 9 places, rounded down. A refused header or page is told in the places of the numbers
+ * that met it, not by the call. Numbers may come twice, in any order. Words behind the last place of
+ * the list stay as they were. The header is tested once for the whole list; an empty list is answered
+ * without a look at the image. `nodes` and `image` must not overlap `places`.
+ * Refusal 17, place 0, and no word is written: over 4,096 numbers, and `more` is 4,096; then fewer
+ * places than numbers, and `more` is the count of numbers. */
+struct rkw_answer rkw_find_nodes(const uint8_t *image, size_t len, const uint64_t *nodes, size_t count, uint64_t *places, size_t words);
 
 /* Looks up a block by its number, bit 0 left out, with the same checks; answers the number as stored.
  * Refusals 1 to 11, and 21. */

@@ -28,6 +28,14 @@ extern "C" {
     fn rkw_check_nodes(image: *const u8, len: usize) -> Answer;
     fn rkw_check_blocks(image: *const u8, len: usize) -> Answer;
     fn rkw_find_node(image: *const u8, len: usize, node: u64) -> NodeAnswer;
+    fn rkw_find_nodes(
+        image: *const u8,
+        len: usize,
+        nodes: *const u64,
+        count: usize,
+        places: *mut u64,
+        words: usize,
+    ) -> Answer;
     fn rkw_find_block(image: *const u8, len: usize, block: u64) -> BlockAnswer;
     fn rkw_next_node(image: *const u8, len: usize, from: u64) -> NodeAnswer;
     fn rkw_next_block(image: *const u8, len: usize, from: u64) -> BlockAnswer;
@@ -79,6 +87,23 @@ pub fn check_blocks(image: &[u8]) -> Answer {
 pub fn find_node(image: &[u8], node: u64) -> NodeAnswer {
     // SAFETY: the pointer and the length are those of one slice.
     unsafe { rkw_find_node(image.as_ptr(), image.len(), node) }
+}
+
+/// Looks up a list of at most 4,096 nodes, each as [`find_node`] does, and puts the fields of each
+/// answer into nine words of `places`, in the order of the list. Refusal 17.
+pub fn find_nodes(image: &[u8], nodes: &[u64], places: &mut [u64]) -> Answer {
+    let (start, words) = (places.as_mut_ptr(), places.len());
+    // SAFETY: each pointer and its length are those of one slice, and `places` is borrowed for writing alone.
+    unsafe {
+        rkw_find_nodes(
+            image.as_ptr(),
+            image.len(),
+            nodes.as_ptr(),
+            nodes.len(),
+            start,
+            words,
+        )
+    }
 }
 
 /// Looks up a block by its number, bit 0 left out. Refusals 1 to 11, and 21.

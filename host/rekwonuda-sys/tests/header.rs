@@ -27,6 +27,8 @@ fn rust_type(in_c: &str) -> String {
         "size_t" => "usize".into(),
         "const uint8_t *" => "*const u8".into(),
         "uint8_t *" => "*mut u8".into(),
+        "const uint64_t *" => "*const u64".into(),
+        "uint64_t *" => "*mut u64".into(),
         _ => match in_c.strip_prefix("struct rkw_") {
             Some(name) => name.split('_').map(capital).collect(),
             None => in_c.replace("uint", "u").replace("_t", ""),
