@@ -19,8 +19,12 @@ pub struct Node {
 }
 
 pub fn find_node(image: &[u8], node: u64) -> Answer<Lookup<Node>> {
-    let header = header(image)?;
-    Ok(tree::find(image, &header, Tree::Nodes, node)?.map(listed))
+    look_up(image, &header(image)?, node)
+}
+
+/// The lookup under a header that has been accepted.
+pub(crate) fn look_up(image: &[u8], header: &Header, node: u64) -> Answer<Lookup<Node>> {
+    Ok(tree::find(image, header, Tree::Nodes, node)?.map(listed))
 }
 
 pub fn next_node(image: &[u8], from: u64) -> Answer<Lookup<Node>> {

@@ -111,7 +111,7 @@ fn listed(seed: u64, method: u8, node_level: u8, block_level: u8) -> Built {
     builder.finish()
 }
 
-fn page(built: &Built, tree: Tree, level: u8, first: u64) -> usize {
+pub(super) fn page(built: &Built, tree: Tree, level: u8, first: u64) -> usize {
     let is_it = |page: &PlacedPage| {
         (page.tree, page.level) == (tree, level) && page.keys.first() == Some(&first)
     };
@@ -123,7 +123,7 @@ impl Built {
         seal_page(&mut self.image, self.pages[page].offset);
     }
 
-    fn set_keys(&mut self, page: usize, keys: &[u64]) {
+    pub(super) fn set_keys(&mut self, page: usize, keys: &[u64]) {
         let placed = &mut self.pages[page];
         placed.keys = keys.to_vec();
         let size = placed.tree.entry_size(placed.level);

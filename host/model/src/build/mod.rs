@@ -5,6 +5,7 @@ pub mod bit_0;
 mod blocks;
 pub mod heaps;
 pub mod keys;
+pub mod lists;
 pub mod office;
 mod pages;
 pub mod seal;
