@@ -3,6 +3,7 @@
 
 use crate::heap::MOST_HEAP;
 use crate::images::images;
+use crate::nodes::WORDS;
 use crate::{Answer, Block, Lookup, Node, Property, Refusal, Value};
 use std::fmt::{Display, Write};
 
@@ -10,6 +11,10 @@ const BUFFER: usize = 65_536;
 const SHORT_BUFFER: [u8; 16] = [0xA5; 16];
 const MOST_LISTED: usize = 60;
 const MOST_PROPERTIES: usize = 16;
+const MOST_IN_LIST: usize = 12;
+
+/// What every word of a result area is before a call.
+const FRESH_WORD: u64 = 0xA5A5_A5A5_A5A5_A5A5;
 
 /// Asked of data that is no heap.
 const ANY_PROPERTY: u16 = 0x3001;
@@ -33,6 +38,7 @@ pub fn report() -> String {
         asked.say(&name, bytes_in_words(&image));
         asked.whole();
         asked.list_nodes();
+        asked.lists_of_nodes();
         asked.list_blocks();
     }
     lines
@@ -138,6 +144,49 @@ impl Asked<'_> {
         let words = answer.map(|property| property_in_words(block, property));
         self.say(format!("find_property {id:04x}"), or_refusal(words));
         true
+    }
+
+    /// A list in an area as long as it needs, one word short, and longer by less than a place; then the
+    /// empty list.
+    fn lists_of_nodes(&mut self) {
+        let nodes = self.some_nodes();
+        let needed = WORDS * nodes.len();
+        for words in [needed, needed - 1, needed + 5] {
+            self.find_nodes(&nodes, words);
+        }
+        self.find_nodes(&[], 5);
+    }
+
+    /// The first nodes, or 0 where there are none; the first again, and with a bit that does not count;
+    /// and the highest number.
+    fn some_nodes(&self) -> Vec<u64> {
+        let mut nodes = Vec::new();
+        let mut from = 0;
+        while nodes.len() < MOST_IN_LIST && from <= u64::from(u32::MAX) {
+            let found = crate::next_node(self.image, from);
+            let Some(node) = found.ok().and_then(Lookup::found) else {
+                break;
+            };
+            nodes.push(u64::from(node.node));
+            from = u64::from(node.node) + 1;
+        }
+        if nodes.is_empty() {
+            nodes.push(0);
+        }
+        let first = nodes[0];
+        nodes.extend([first, first + (1 << 32), u64::from(u32::MAX)]);
+        nodes
+    }
+
+    fn find_nodes(&mut self, nodes: &[u64], words: usize) {
+        let mut area = vec![FRESH_WORD; words];
+        let answer = accepted(crate::find_nodes(self.image, nodes, &mut area));
+        let bytes: Vec<_> = area.iter().flat_map(|word| word.to_le_bytes()).collect();
+        let sum = crate::checksum(&bytes);
+        self.say(
+            format!("find_nodes of {} in {words} words", nodes.len()),
+            format!("{answer}; area of {words} words, checksum {sum:08x}"),
+        );
     }
 
     fn list_blocks(&mut self) {
