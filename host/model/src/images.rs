@@ -1,9 +1,10 @@
 //! A choice of small images, the same each time: some of each method and depth, damaged ones that
-//! together reach every refusal, those that turn on bit 0 of a block's number, and those in which keys
-//! are out of order or out of range.
+//! together reach every refusal, those that turn on bit 0 of a block's number, those in which keys are
+//! out of order or out of range, and those for a list of nodes.
 
 mod bit_0;
 mod keys;
+mod lists;
 
 use crate::build::heaps::PlacedHeap;
 use crate::build::seal::seal_block;
@@ -87,6 +88,7 @@ pub fn images() -> Vec<Image> {
     );
     images.extend(bit_0::images());
     images.extend(keys::images());
+    images.extend(lists::images());
     images
 }
 

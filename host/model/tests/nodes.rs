@@ -282,3 +282,37 @@ fn damaged_images() {
     }
     assert_eq!(met, (2..=11).chain([21]).collect());
 }
+
+/// What the chosen images are made for: one list meets all, and one goes through every leaf.
+#[test]
+fn chosen_images() {
+    let images = model::images::images();
+    let named = |name: &str| {
+        let mut images = images.iter();
+        images.find(|image| image.name == name).expect("that image")
+    };
+    let met = |name: &str| -> BTreeSet<_> {
+        let image = named(name);
+        let (answer, area) = ask(&image.bytes, &image.nodes, WORDS * image.nodes.len());
+        assert_eq!(answer, ACCEPTED);
+        let met = |place: &[u64]| (place[0], place[3], place[4]);
+        area.chunks(WORDS).map(met).collect()
+    };
+    // Refusal, found, pages.
+    let mixed = [
+        (0, 0, 1),
+        (0, 0, 2),
+        (0, 0, 3),
+        (0, 1, 3),
+        (9, 0, 0),
+        (21, 0, 0),
+    ];
+    assert_eq!(met("list-mixed"), mixed.into());
+    assert_eq!(
+        met("list-level-3"),
+        [(0, 0, 1), (0, 0, 4), (0, 1, 4)].into()
+    );
+    let leaves = deep().pages.into_iter();
+    let leaves = leaves.filter(|page| (page.tree, page.level) == (Tree::Nodes, 0));
+    assert_eq!(leaves.count(), 5);
+}
