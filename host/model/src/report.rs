@@ -162,12 +162,15 @@ impl Asked<'_> {
     fn some_nodes(&self) -> Vec<u64> {
         let mut nodes = Vec::new();
         let mut from = 0;
-        while nodes.len() < MOST_IN_LIST && from <= u64::from(u32::MAX) {
+        for _ in 0..MOST_IN_LIST {
             let found = crate::next_node(self.image, from);
             let Some(node) = found.ok().and_then(Lookup::found) else {
                 break;
             };
             nodes.push(u64::from(node.node));
+            if node.node == u32::MAX {
+                break;
+            }
             from = u64::from(node.node) + 1;
         }
         if nodes.is_empty() {
