@@ -40,35 +40,22 @@ pub fn header(answer: Answer<Header>) -> [u64; 8] {
     })
 }
 
-fn lookup<T>(answer: Answer<Lookup<T>>, entry_fields: impl FnOnce(T) -> [u64; 4]) -> [u64; 9] {
-    fields(answer, |lookup, rest| match lookup {
-        Lookup::Absent { pages } => rest[1] = pages,
-        Lookup::Found { pages, entry } => {
-            rest[..2].copy_from_slice(&[1, pages]);
-            rest[2..].copy_from_slice(&entry_fields(entry));
-        }
-    })
-}
-
+/// As the model puts it into a place of a list too.
 pub fn node(answer: Answer<Lookup<Node>>) -> [u64; 9] {
-    lookup(answer, |node| {
-        [
-            u64::from(node.node),
-            node.data,
-            node.subnode,
-            u64::from(node.parent),
-        ]
-    })
+    model::nodes::in_words(answer)
 }
 
 pub fn block(answer: Answer<Lookup<Block>>) -> [u64; 9] {
-    lookup(answer, |block| {
-        [
-            block.block,
-            block.offset,
-            u64::from(block.size),
-            u64::from(block.references),
-        ]
+    fields(answer, |lookup, rest| match lookup {
+        Lookup::Absent { pages } => rest[1] = pages,
+        Lookup::Found { pages, entry } => rest.copy_from_slice(&[
+            1,
+            pages,
+            entry.block,
+            entry.offset,
+            u64::from(entry.size),
+            u64::from(entry.references),
+        ]),
     })
 }
 

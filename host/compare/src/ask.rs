@@ -1,6 +1,8 @@
 //! One call, put to both.
 
 use crate::answers;
+use crate::buffers::Buffers;
+use model::nodes::WORDS;
 use rekwonuda_sys as proved;
 
 #[derive(Clone, Copy, PartialEq, Eq, PartialOrd, Ord, Debug)]
@@ -9,6 +11,7 @@ pub enum Call {
     CheckNodes,
     CheckBlocks,
     FindNode,
+    FindNodes,
     FindBlock,
     NextNode,
     NextBlock,
@@ -32,6 +35,7 @@ pub const ON_IMAGE: &[Call] = &[
     Call::CheckNodes,
     Call::CheckBlocks,
     Call::FindNode,
+    Call::FindNodes,
     Call::FindBlock,
     Call::NextNode,
     Call::NextBlock,
@@ -62,10 +66,10 @@ pub const ON_BYTES: &[Call] = &[
 
 impl Call {
     pub fn takes_node(self) -> bool {
-        if self == Call::NextNode {
+        if matches!(self, Call::NextNode | Call::ReadNode) {
             return true;
         }
-        matches!(self, Call::FindNode | Call::ReadNode)
+        matches!(self, Call::FindNode | Call::FindNodes)
     }
 
     /// Whether the call seeks a block, so that bit 0 of its number makes no difference.
@@ -88,6 +92,7 @@ impl Call {
     pub fn refusals(self) -> Vec<u64> {
         match self {
             Call::Header => (1..=5).collect(),
+            Call::FindNodes => vec![17],
             Call::TestBlock => (1..=15).chain([21]).collect(),
             Call::ReadBlock => (1..=15).chain([17, 21]).collect(),
             Call::ReadNode => (1..=17).chain([21]).collect(),
@@ -101,7 +106,7 @@ impl Call {
     }
 }
 
-/// A call's arguments beside the lent bytes. Each call takes those that it has.
+/// A call's arguments beside what is lent. Each call takes those that it has.
 #[derive(Clone, Copy, Debug)]
 pub struct Ask {
     pub call: Call,
@@ -110,6 +115,29 @@ pub struct Ask {
     pub offset: u64,
     pub method: u8,
     pub out_length: usize,
+    /// The words of the area that a list of nodes is answered in.
+    pub words: usize,
+}
+
+impl Ask {
+    /// Of a call that takes a number at most.
+    pub fn new(call: Call, number: u64) -> Self {
+        Self {
+            call,
+            number,
+            offset: 0,
+            method: 0,
+            out_length: 0,
+            words: 0,
+        }
+    }
+}
+
+/// What is lent to a call for reading: an image, a block or other bytes, and a list of node numbers.
+#[derive(Clone, Copy, PartialEq, Eq)]
+pub struct Lent<'a> {
+    pub bytes: &'a [u8],
+    pub nodes: &'a [u64],
 }
 
 /// All fields of both answers.
@@ -126,59 +154,47 @@ fn both<const N: usize>(proved: [u64; N], model: [u64; N]) -> Answers {
     }
 }
 
-/// Bytes that surround a buffer, so that a write beside it shows.
-pub const GUARD: usize = 64;
-
-/// The two buffers that a call may write, with their surroundings.
-#[derive(Default)]
-pub struct Buffers {
-    proved: Vec<u8>,
-    model: Vec<u8>,
-}
-
-impl Buffers {
-    /// A buffer that begins with those bytes and goes on in a pattern.
-    fn set(&mut self, start: &[u8], length: usize, pattern: u8) {
-        self.model.clear();
-        let whole = GUARD + length + GUARD;
-        self.model
-            .extend((0..whole).map(|at| (at as u8).wrapping_mul(31) ^ pattern));
-        let start = &start[..start.len().min(length)];
-        self.model[GUARD..GUARD + start.len()].copy_from_slice(start);
-        self.proved.clone_from(&self.model);
-    }
-
-    fn lend(&mut self) -> (&mut [u8], &mut [u8]) {
-        let end = self.model.len() - GUARD;
-        (&mut self.proved[GUARD..end], &mut self.model[GUARD..end])
-    }
-
-    pub fn same(&self) -> bool {
-        self.proved == self.model
-    }
-}
-
-/// Puts one call to both. `lent` is the proved library's copy of the bytes, `own` the model's.
-pub fn ask(ask: &Ask, lent: &[u8], own: &[u8], buffers: &mut Buffers) -> Answers {
+/// Puts one call to both. `lent` is what the proved library reads, `own` the model's copy of it.
+pub fn ask(ask: &Ask, lent: Lent, own: Lent, buffers: &mut Buffers) -> Answers {
+    buffers.clear();
     match ask.call {
         Call::ReadBlock | Call::ReadNode => {
-            buffers.set(&[], ask.out_length, ask.number as u8);
-            read(ask, lent, own, buffers)
+            buffers.set_bytes(&[], ask.out_length, ask.number as u8);
+            read(ask, lent.bytes, own.bytes, buffers)
         }
         Call::Encode | Call::Decode => {
-            buffers.set(own, ask.out_length, ask.number as u8);
+            buffers.set_bytes(own.bytes, ask.out_length, ask.number as u8);
             code(ask, buffers)
         }
-        _ => look(ask, lent, own),
+        Call::FindNodes => {
+            buffers.set_words(ask.words, ask.number);
+            find_nodes(lent, own, buffers)
+        }
+        _ => look(ask, lent.bytes, own.bytes),
     }
+}
+
+fn find_nodes(lent: Lent, own: Lent, buffers: &mut Buffers) -> Answers {
+    let (places, model_places) = buffers.lend_words();
+    let model = model::find_nodes(own.bytes, own.nodes, model_places);
+    let proved = proved::find_nodes(lent.bytes, lent.nodes, places);
+    both(proved.fields(), answers::plain(model))
+}
+
+/// Whether each place, as a call for a list has just left it, is what the proved library answers to
+/// that number alone.
+pub fn alike_one_by_one(lent: Lent, buffers: &mut Buffers) -> bool {
+    let (places, _) = buffers.lend_words();
+    let mut each = lent.nodes.iter().zip(places.chunks_exact(WORDS));
+    each.all(|(&node, place)| proved::find_node(lent.bytes, node).fields() == place)
 }
 
 /// Whether the proved library answers the number and the number with bit 0 the other way alike, in
 /// every field and every byte of the buffer.
 pub fn alike_either_way(ask: &Ask, lent: &[u8], buffers: &mut Buffers) -> bool {
-    buffers.set(&[], ask.out_length, ask.number as u8);
+    buffers.set_bytes(&[], ask.out_length, ask.number as u8);
     let [number, other] = [ask.number, ask.number ^ 1];
-    let (out, other_out) = buffers.lend();
+    let (out, other_out) = buffers.lend_bytes();
     let alike = match ask.call {
         Call::FindBlock => {
             proved::find_block(lent, number).fields() == proved::find_block(lent, other).fields()
@@ -197,7 +213,7 @@ pub fn alike_either_way(ask: &Ask, lent: &[u8], buffers: &mut Buffers) -> bool {
 
 fn read(ask: &Ask, lent: &[u8], own: &[u8], buffers: &mut Buffers) -> Answers {
     let number = ask.number;
-    let (out, model_out) = buffers.lend();
+    let (out, model_out) = buffers.lend_bytes();
     if ask.call == Call::ReadBlock {
         let model = model::read_block(own, number, model_out);
         let proved = proved::read_block(lent, number, out);
@@ -211,7 +227,7 @@ fn read(ask: &Ask, lent: &[u8], own: &[u8], buffers: &mut Buffers) -> Answers {
 
 fn code(ask: &Ask, buffers: &mut Buffers) -> Answers {
     let Ask { number, method, .. } = *ask;
-    let (bytes, model_bytes) = buffers.lend();
+    let (bytes, model_bytes) = buffers.lend_bytes();
     if ask.call == Call::Encode {
         let model = model::encode(method, number, model_bytes);
         let proved = proved::encode(method, number, bytes);

@@ -1,9 +1,11 @@
 //! Holds the proved library against the model: the same call on the same bytes, every field of the
-//! answer and every byte of every buffer compared.
+//! answer and every byte and word of every buffer compared.
 
 pub mod answers;
 pub mod ask;
+pub mod buffers;
 pub mod keys;
+pub mod lists;
 pub mod run;
 pub mod subject;
 pub mod tally;

@@ -1,7 +1,9 @@
 //! The seeded loop.
 
-use crate::ask::{alike_either_way, ask, Answers, Ask, Buffers, Call};
-use crate::subject::{subjects, widest_image, Subject};
+use crate::ask::{alike_either_way, alike_one_by_one, ask, Answers, Ask, Call, Lent};
+use crate::buffers::{Buffers, GUARD};
+use crate::lists;
+use crate::subject::{images_for_long_lists, subjects, widest_image, Subject};
 use crate::tally::Tally;
 use model::random::Random;
 use std::fmt::Write;
@@ -18,6 +20,8 @@ pub struct Run {
     pub calls: u64,
     /// Of these, those that were put to the proved library with bit 0 the other way too.
     pub either_way: u64,
+    /// Of these, the lists whose nodes were put to the proved library one by one too.
+    pub one_by_one: u64,
     pub tally: Tally,
     pub disagreements: Vec<Disagreement>,
     buffers: Buffers,
@@ -26,12 +30,16 @@ pub struct Run {
 /// After so many disagreements a run ends.
 const MOST_DISAGREEMENTS: usize = 10;
 
+/// So many numbers of a list are shown with a disagreement.
+const MOST_SHOWN: usize = 40;
+
 impl Run {
     pub fn new(seed: u64) -> Self {
         Self {
             seed,
             calls: 0,
             either_way: 0,
+            one_by_one: 0,
             tally: Tally::default(),
             disagreements: Vec::new(),
             buffers: Buffers::default(),
@@ -45,6 +53,9 @@ impl Run {
         for subject in &widest {
             self.ask_all(self.seed, subject);
         }
+        for (at, subject) in (0..).zip(&images_for_long_lists(self.seed)) {
+            self.ask_all(self.seed.wrapping_add(at), subject);
+        }
         while self.calls < calls && self.disagreements.len() < MOST_DISAGREEMENTS {
             let seed = seeds.number();
             for subject in subjects(seed) {
@@ -55,33 +66,75 @@ impl Run {
     }
 
     fn ask_all(&mut self, seed: u64, subject: &Subject) {
-        let lent = subject.bytes.clone();
+        let bytes = subject.bytes.clone();
         let mut random = Random::new(seed ^ subject.bytes.len() as u64);
         for _ in 0..subject.asks {
-            let question = question(subject, &mut random);
-            let answers = ask(&question, &lent, &subject.bytes, &mut self.buffers);
-            self.calls += 1;
-            self.tally.add(question.call, &answers, &subject.bytes);
-            let mut fault = fault(&answers, self.buffers.same(), lent == subject.bytes);
-            if fault.is_none() && question.call.seeks_block() && random.one_in(3) {
-                fault = self.bit_0_fault(&question, &lent);
-            }
+            let (question, own_nodes) = question(subject, &mut random);
+            let nodes = own_nodes.clone();
+            let own = Lent {
+                bytes: &subject.bytes,
+                nodes: &own_nodes,
+            };
+            let lent = Lent {
+                bytes: &bytes,
+                nodes: &nodes,
+            };
+            let answers = ask(&question, lent, own, &mut self.buffers);
+            self.add(&question, own, &answers);
+            let fault = fault(&answers, self.buffers.same(), lent == own)
+                .or_else(|| self.fault_beside(&question, lent, &answers, &mut random));
             if let Some(fault) = fault {
-                self.report(seed, subject, &question, &answers, fault);
+                self.report(seed, subject, &question, own.nodes, &answers, fault);
                 return;
             }
         }
     }
 
-    fn bit_0_fault(&mut self, question: &Ask, lent: &[u8]) -> Option<&'static str> {
-        self.either_way += 1;
-        let alike = alike_either_way(question, lent, &mut self.buffers);
-        (!alike).then_some("bit 0 makes a difference")
+    fn add(&mut self, question: &Ask, own: Lent, answers: &Answers) {
+        self.calls += 1;
+        self.tally.add(question.call, answers, own.bytes);
+        if question.call == Call::FindNodes {
+            let area = self.buffers.area();
+            self.tally.add_list(own.nodes.len(), answers, area);
+        }
     }
 
-    fn report(&mut self, seed: u64, subject: &Subject, ask: &Ask, answers: &Answers, fault: &str) {
+    /// Now and then the call is held to another of the proved library.
+    fn fault_beside(
+        &mut self,
+        question: &Ask,
+        lent: Lent,
+        answers: &Answers,
+        random: &mut Random,
+    ) -> Option<&'static str> {
+        if question.call.seeks_block() && random.one_in(3) {
+            self.either_way += 1;
+            let alike = alike_either_way(question, lent.bytes, &mut self.buffers);
+            return (!alike).then_some("bit 0 makes a difference");
+        }
+        let answered = answers.proved[0] == 0;
+        if question.call == Call::FindNodes && answered && random.one_in(3) {
+            self.one_by_one += 1;
+            let alike = alike_one_by_one(lent, &mut self.buffers);
+            return (!alike).then_some("a place is not what the lookup answers");
+        }
+        None
+    }
+
+    fn report(
+        &mut self,
+        seed: u64,
+        subject: &Subject,
+        ask: &Ask,
+        nodes: &[u64],
+        answers: &Answers,
+        fault: &str,
+    ) {
         let at = self.disagreements.len();
         let mut report = format!("{fault}: seed {seed:#x}, {}, {ask:x?}\n", subject.name);
+        if ask.call == Call::FindNodes {
+            report += &self.list_in_words(nodes);
+        }
         let _ = writeln!(
             report,
             "  proved {:x?}\n  model  {:x?}",
@@ -98,6 +151,17 @@ impl Run {
         eprint!("{report}");
         self.disagreements.push(Disagreement { report });
     }
+
+    /// Its numbers, and the first word in which the two areas differ.
+    fn list_in_words(&self, nodes: &[u64]) -> String {
+        let some = &nodes[..nodes.len().min(MOST_SHOWN)];
+        let mut words = format!("  list of {}: {some:x?}\n", nodes.len());
+        if let Some((at, proved, model)) = self.buffers.first_other_word() {
+            words += &format!("  word {at}, the area's first being {GUARD}: ");
+            words += &format!("proved {proved:x}, model {model:x}\n");
+        }
+        words
+    }
 }
 
 fn fault(answers: &Answers, same_buffers: bool, unchanged: bool) -> Option<&'static str> {
@@ -106,13 +170,14 @@ fn fault(answers: &Answers, same_buffers: bool, unchanged: bool) -> Option<&'sta
     } else if !same_buffers {
         Some("buffers differ")
     } else if !unchanged {
-        Some("the lent bytes changed")
+        Some("what was lent has changed")
     } else {
         None
     }
 }
 
-fn question(subject: &Subject, random: &mut Random) -> Ask {
+/// A call, and the list of nodes for a call that takes one.
+fn question(subject: &Subject, random: &mut Random) -> (Ask, Vec<u64>) {
     let call = random.pick(subject.calls).copied().unwrap_or(Call::Room);
     let number = number_for(call, subject, random);
     let method = if random.one_in(8) {
@@ -125,13 +190,33 @@ fn question(subject: &Subject, random: &mut Random) -> Ask {
         1 => random.below(1 << 30) as u64,
         _ => random.number(),
     };
-    Ask {
+    let nodes = nodes_for(call, subject, random);
+    let words = match call {
+        Call::FindNodes => lists::area(nodes.len(), random),
+        _ => 0,
+    };
+    let ask = Ask {
         call,
         number,
         offset,
         method,
         out_length: out_length(call, number, subject, random),
+        words,
+    };
+    (ask, nodes)
+}
+
+/// Of any other call none.
+fn nodes_for(call: Call, subject: &Subject, random: &mut Random) -> Vec<u64> {
+    if call != Call::FindNodes {
+        return Vec::new();
     }
+    let length = if subject.long_lists {
+        lists::long(random)
+    } else {
+        lists::length(random)
+    };
+    lists::draw(length, random, |random| number_for(call, subject, random))
 }
 
 fn number_for(call: Call, subject: &Subject, random: &mut Random) -> u64 {

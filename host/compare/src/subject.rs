@@ -20,6 +20,8 @@ pub struct Subject {
     /// Item numbers and property ids.
     pub items: Vec<u64>,
     pub ids: Vec<u64>,
+    /// Whether a list of nodes is as long as it may be, or longer by one.
+    pub long_lists: bool,
     /// How many calls it is good for.
     pub asks: usize,
 }
@@ -34,6 +36,7 @@ impl Subject {
             blocks: Vec::new(),
             items: Vec::new(),
             ids: Vec::new(),
+            long_lists: false,
             asks: 8,
         }
     }
@@ -73,6 +76,15 @@ fn built_images(random: &mut Random) -> Vec<Subject> {
 
 /// Keys at fault in images that have more index pages than small ones, and more entries in each.
 fn wide_images(random: &mut Random) -> Vec<Subject> {
+    let built = wide_image(random);
+    let damaged = (0..12).map(|_| {
+        let damage = random.pick(KEYS).copied().unwrap_or(KEYS[0]);
+        damaged_image(&built, (damage, true), random)
+    });
+    damaged.collect()
+}
+
+fn wide_image(random: &mut Random) -> Built {
     let plan = Plan {
         method: random.below(3) as u8,
         node_level: random.between(2, 3) as u8,
@@ -83,12 +95,7 @@ fn wide_images(random: &mut Random) -> Vec<Subject> {
         loose_bit_0: random.one_in(2),
         ..Plan::default()
     };
-    let built = build(random.number(), &plan);
-    let damaged = (0..12).map(|_| {
-        let damage = random.pick(KEYS).copied().unwrap_or(KEYS[0]);
-        damaged_image(&built, (damage, true), random)
-    });
-    damaged.collect()
+    build(random.number(), &plan)
 }
 
 fn damage(random: &mut Random) -> (Damage, bool) {
@@ -166,6 +173,33 @@ pub fn widest_image(seed: u64) -> Subject {
         blocks: built.block_numbers(),
         asks: 6,
         ..Subject::new("widest".into(), built.image, &[Call::ReadNode])
+    }
+}
+
+/// Images for the longest lists of nodes: as built, and with a page of the node tree at fault.
+pub fn images_for_long_lists(seed: u64) -> Vec<Subject> {
+    let mut random = Random::new(seed);
+    let built = wide_image(&mut random);
+    let mut images = vec![("as built", built.image.clone())];
+    for (name, damage) in [("refused", Damage::PageSum), ("stale", Damage::KeyStale)] {
+        images.push((name, with_nodes_at_fault(&built, damage, &mut random)));
+    }
+    let subject = |(name, bytes): (&str, Vec<u8>)| Subject {
+        nodes: built.node_numbers(),
+        long_lists: true,
+        asks: 6,
+        ..Subject::new(format!("long lists, {name}"), bytes, &[Call::FindNodes])
+    };
+    images.into_iter().map(subject).collect()
+}
+
+/// The damage may find a page of either tree, so it is tried until it has found one of this.
+fn with_nodes_at_fault(built: &Built, damage: Damage, random: &mut Random) -> Vec<u8> {
+    loop {
+        let spoilt = spoil(built, damage, true, random).image;
+        if model::check_nodes(&spoilt).is_err() {
+            return spoilt;
+        }
     }
 }
 

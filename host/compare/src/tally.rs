@@ -2,6 +2,7 @@
 
 use crate::ask::{Answers, Call};
 use crate::keys::KeyFault;
+use crate::lists::Met;
 use model::page::Tree;
 use model::Refusal;
 use std::collections::BTreeMap;
@@ -20,6 +21,8 @@ pub struct Counts {
 pub struct Tally {
     pub calls: BTreeMap<Call, Counts>,
     pub keys: BTreeMap<KeyFault, u64>,
+    /// What a place says counts once a place, all else once a call.
+    pub lists: BTreeMap<Met, u64>,
 }
 
 impl Tally {
@@ -31,6 +34,13 @@ impl Tally {
             [refusal, _, _, ..] if refusal > 0 => *counts.refused.entry(refusal).or_default() += 1,
             [_, _, _, 0, ..] if call.may_be_absent() => counts.absent += 1,
             _ => counts.answered += 1,
+        }
+    }
+
+    /// Adds what the answer to a list of that length says, and the area that it was answered in.
+    pub fn add_list(&mut self, length: usize, answers: &Answers, area: &[u64]) {
+        for met in Met::in_call(length, &answers.model, area) {
+            *self.lists.entry(met).or_default() += 1;
         }
     }
 
@@ -72,6 +82,12 @@ impl Tally {
         let never = |fault: &KeyFault| !self.keys.contains_key(fault);
         KeyFault::all_that_can_occur().filter(never).collect()
     }
+
+    /// What lists of nodes have to meet and never met.
+    pub fn lists_not_reached(&self) -> Vec<Met> {
+        let never = |met: &Met| !self.lists.contains_key(met);
+        Met::all().filter(never).collect()
+    }
 }
 
 impl fmt::Display for Tally {
@@ -98,7 +114,8 @@ impl fmt::Display for Tally {
         for number in 1..=MOST_REFUSAL {
             writeln!(f, "{number:>7} {:>9}", self.refusals(number))?;
         }
-        self.write_keys(f)
+        self.write_keys(f)?;
+        self.write_lists(f)
     }
 }
 
@@ -114,6 +131,15 @@ impl Tally {
             let page = format!("{tree} tree, {role}");
             let fault = fault.to_string();
             writeln!(f, "{page:<17} {fault:<21} {count:>8}")?;
+        }
+        Ok(())
+    }
+
+    fn write_lists(&self, f: &mut fmt::Formatter) -> fmt::Result {
+        writeln!(f, "\n{:<39} {:>8}", "lists of nodes", "times")?;
+        for (met, count) in &self.lists {
+            let met = met.to_string();
+            writeln!(f, "{met:<39} {count:>8}")?;
         }
         Ok(())
     }

@@ -1,6 +1,6 @@
 //! 200,000 calls over built, damaged and random bytes: both answer alike, every refusal comes up in
-//! every call that can give it, and keys at fault in every sort of page, at every sort of entry, with
-//! and without a fault of the other rule.
+//! every call that can give it, keys at fault in every sort of page, at every sort of entry, with and
+//! without a fault of the other rule, and in the places of a list of nodes every answer of the lookup.
 
 use compare::run::Run;
 use compare::tally::MOST_REFUSAL;
@@ -11,6 +11,7 @@ fn differential() {
     run.make(200_000, |_| {});
     println!("{}", run.tally);
     println!("{} calls also with bit 0 the other way", run.either_way);
+    println!("{} lists also node by node", run.one_by_one);
     println!(
         "{} calls, {} disagreements",
         run.calls,
@@ -21,6 +22,7 @@ fn differential() {
         "the proved library and the model disagree"
     );
     assert!(run.either_way > 10_000);
+    assert!(run.one_by_one > 1_000);
     for number in 1..=MOST_REFUSAL {
         assert!(
             run.tally.refusals(number) > 0,
@@ -30,4 +32,5 @@ fn differential() {
     assert_eq!(run.tally.not_reached(), []);
     assert_eq!(run.tally.keys_not_reached(), []);
     assert!(run.tally.keys.keys().all(|fault| fault.can_occur()));
+    assert_eq!(run.tally.lists_not_reached(), []);
 }

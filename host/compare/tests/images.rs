@@ -1,35 +1,36 @@
 //! The chosen images and the sample mail file: every call on them, put to both.
 
-use compare::ask::{ask, Ask, Buffers, Call, ON_HEAP, ON_IMAGE};
+use compare::ask::{ask, Ask, Call, Lent, ON_HEAP, ON_IMAGE};
+use compare::buffers::Buffers;
 use model::build::office::office;
 use model::images::{images, Image};
+use model::nodes::WORDS;
 
-fn assert_alike(name: &str, bytes: &[u8], call: Call, number: u64, out_length: usize) {
-    let question = Ask {
-        call,
-        number,
-        offset: 0,
-        method: 0,
-        out_length,
-    };
+fn assert_alike(name: &str, bytes: &[u8], nodes: &[u64], question: Ask) {
     let mut buffers = Buffers::default();
-    let answers = ask(&question, bytes, bytes, &mut buffers);
+    let lent = Lent { bytes, nodes };
+    let answers = ask(&question, lent, lent, &mut buffers);
     assert_eq!(answers.proved, answers.model, "{name}: {question:x?}");
     assert!(buffers.same(), "{name}: {question:x?}");
 }
 
 fn assert_image(image: &Image) {
     let Image { name, bytes, .. } = image;
-    for &call in ON_IMAGE {
+    for &call in ON_IMAGE.iter().filter(|&&call| call != Call::FindNodes) {
         let numbers = if call.takes_node() {
             &image.nodes
         } else {
             &image.blocks
         };
         for &number in numbers.iter().chain(&image.from) {
-            assert_alike(name, bytes, call, number, image.buffer);
+            let question = Ask {
+                out_length: image.buffer,
+                ..Ask::new(call, number)
+            };
+            assert_alike(name, bytes, &[], question);
         }
     }
+    assert_lists(image);
     for &node in &image.nodes {
         let mut out = vec![0; image.buffer];
         if let Ok(Some(length)) = model::read_node(bytes, node, &mut out) {
@@ -38,11 +39,34 @@ fn assert_image(image: &Image) {
     }
 }
 
+/// Every number in one list, forwards and backwards, in areas too short, right and too long.
+fn assert_lists(image: &Image) {
+    let mut nodes = [&image.nodes[..], &image.from].concat();
+    for _ in 0..2 {
+        let needed = WORDS * nodes.len();
+        for words in [
+            0,
+            needed - WORDS,
+            needed - 1,
+            needed,
+            needed + 8,
+            needed + 30,
+        ] {
+            let question = Ask {
+                words,
+                ..Ask::new(Call::FindNodes, 7)
+            };
+            assert_alike(&image.name, &image.bytes, &nodes, question);
+        }
+        nodes.reverse();
+    }
+}
+
 fn assert_heap(image: &Image, block: &[u8]) {
     for &call in ON_HEAP {
         let items = (0..40).map(|at| at << 5);
         for number in items.chain(image.ids.iter().map(|&id| u64::from(id))) {
-            assert_alike(&image.name, block, call, number, 0);
+            assert_alike(&image.name, block, &[], Ask::new(call, number));
         }
     }
 }

@@ -47,6 +47,9 @@ fn compare(image: &[u8], node: u64) -> u64 {
     );
     let found = proved::find_node(image, node).fields();
     assert_eq!(found, answers::node(model::find_node(image, node)));
+    let mut place = [0; 9];
+    assert_eq!(proved::find_nodes(image, &[node], &mut place).refusal, 0);
+    assert_eq!(place, found);
     found[0]
 }
 
