@@ -2,7 +2,7 @@
 
 use crate::answers;
 use crate::buffers::Buffers;
-use model::nodes::WORDS;
+use crate::lists::WORDS;
 use rekwonuda_sys as proved;
 
 #[derive(Clone, Copy, PartialEq, Eq, PartialOrd, Ord, Debug)]

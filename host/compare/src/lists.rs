@@ -1,8 +1,11 @@
 //! Lists of nodes: how long they are and their areas, and what a call for one may meet.
 
-use model::nodes::{MOST_NODES, WORDS};
 use model::random::Random;
 use std::fmt;
+
+/// The model's bounds, said here once more: a slip there must not change what is drawn or has to be met.
+pub const MOST_NODES: usize = 4096;
+pub const WORDS: usize = 9;
 
 /// What a call for a list has met.
 #[derive(Clone, Copy, PartialEq, Eq, PartialOrd, Ord, Debug)]

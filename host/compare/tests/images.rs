@@ -2,9 +2,9 @@
 
 use compare::ask::{ask, Ask, Call, Lent, ON_HEAP, ON_IMAGE};
 use compare::buffers::Buffers;
+use compare::lists::WORDS;
 use model::build::office::office;
 use model::images::{images, Image};
-use model::nodes::WORDS;
 
 fn assert_alike(name: &str, bytes: &[u8], nodes: &[u64], question: Ask) {
     let mut buffers = Buffers::default();

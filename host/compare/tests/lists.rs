@@ -3,10 +3,9 @@
 
 use compare::ask::{ask, Ask, Call, Lent};
 use compare::buffers::Buffers;
-use compare::lists::{area, draw, length, long, Met};
+use compare::lists::{area, draw, length, long, Met, MOST_NODES, WORDS};
 use compare::tally::Tally;
 use model::build::lists::mixed;
-use model::nodes::{MOST_NODES, WORDS};
 use model::random::Random;
 use std::collections::BTreeSet;
 

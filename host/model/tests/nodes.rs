@@ -4,11 +4,15 @@
 use model::build::lists::{deep, mixed};
 use model::build::{build, build_small, Built, PlacedPage, Plan};
 use model::damage::{spoil, Damage, HEADER, KEYS, PAGE};
-use model::nodes::{in_words, MOST_NODES, WORDS};
+use model::nodes::in_words;
 use model::page::Tree;
 use model::random::Random;
 use model::{find_node, find_nodes, Answer, Lookup, Node, Refusal};
 use std::collections::BTreeSet;
+
+/// The rules' bounds, not the model's.
+const MOST_NODES: usize = 4096;
+const WORDS: usize = 9;
 
 /// What a word of the area is before the call.
 const FRESH: u64 = 0x5A17_5A17_5A17_5A17;
