@@ -80,18 +80,19 @@ impl Run {
                 nodes: &nodes,
             };
             let answers = ask(&question, lent, own, &mut self.buffers);
-            self.add(&question, own, &answers);
+            self.calls += 1;
             let fault = fault(&answers, self.buffers.same(), lent == own)
                 .or_else(|| self.fault_beside(&question, lent, &answers, &mut random));
             if let Some(fault) = fault {
                 self.report(seed, subject, &question, own.nodes, &answers, fault);
                 return;
             }
+            self.add(&question, own, &answers);
         }
     }
 
+    /// Counts an answer that both gave: another may say what no page can lead to.
     fn add(&mut self, question: &Ask, own: Lent, answers: &Answers) {
-        self.calls += 1;
         self.tally.add(question.call, answers, own.bytes);
         if question.call == Call::FindNodes {
             let area = self.buffers.area();
