@@ -31,10 +31,18 @@ macro_rules! answers {
             pub const NAMES: &'static [&'static str] =
                 &["refusal", "place", "more", $(stringify!($field),)*];
 
+            /// How many fields there are, which is how many words a place for it takes.
+            pub const WORDS: usize = Self::NAMES.len();
+
             /// All fields, in their order.
             #[must_use]
-            pub fn fields(self) -> [u64; Self::NAMES.len()] {
+            pub fn fields(self) -> [u64; Self::WORDS] {
                 [self.refusal, self.place, self.more, $(self.$field,)*]
+            }
+
+            /// The answer that has these fields, in their order.
+            pub fn from_fields([refusal, place, more, $($field,)*]: [u64; Self::WORDS]) -> Self {
+                Self { refusal, place, more, $($field,)* }
             }
         }
 

@@ -89,8 +89,22 @@ pub fn find_node(image: &[u8], node: u64) -> NodeAnswer {
     unsafe { rkw_find_node(image.as_ptr(), image.len(), node) }
 }
 
-/// Looks up a list of at most 4,096 nodes, each as [`find_node`] does, and puts the fields of each
-/// answer into nine words of `places`, in the order of the list. Refusal 17.
+/// The most nodes that [`find_nodes`] looks up in one call.
+pub const MOST_NODES: usize = 4_096;
+
+/// Looks up a list of at most [`MOST_NODES`] nodes, each as [`find_node`] does, and puts the fields of
+/// each answer into a place of [`NodeAnswer::WORDS`] words, in the order of the list. Refusal 17.
+///
+/// ```
+/// use rekwonuda_sys::{find_node, find_nodes, NodeAnswer};
+///
+/// let image = std::fs::read("../../samples/mini.img")?;
+/// let mut places = [[0; NodeAnswer::WORDS]; 2];
+/// assert_eq!(find_nodes(&image, &[0x122, 0x20], places.as_flattened_mut()).refusal, 0);
+/// assert_eq!(NodeAnswer::from_fields(places[0]), find_node(&image, 0x122));
+/// assert_eq!(NodeAnswer::from_fields(places[1]).found, 0);
+/// # Ok::<(), std::io::Error>(())
+/// ```
 pub fn find_nodes(image: &[u8], nodes: &[u64], places: &mut [u64]) -> Answer {
     let (start, words) = (places.as_mut_ptr(), places.len());
     // SAFETY: each pointer and its length are those of one slice, and `places` is borrowed for writing alone.
