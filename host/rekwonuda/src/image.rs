@@ -2,7 +2,7 @@ use crate::refusal::answered;
 use crate::{
     Block, BlockId, Blocks, Fault, Header, Lookup, Node, NodeId, Nodes, Refusal, LARGEST_BLOCK,
 };
-use rekwonuda_sys as sys;
+use rekwonuda_sys::{self as sys, NodeAnswer};
 
 /// The bytes of a .pst file, from its first.
 ///
@@ -70,6 +70,41 @@ impl<'a> Image<'a> {
     /// Refusals 1 to 11, and 21, of the header and of the pages on the way.
     pub fn find_node(&self, node: NodeId) -> Result<Lookup<Node>, Refusal> {
         answered(sys::find_node(self.0, node.0.into())).map(|answer| Lookup::<Node>::of(&answer))
+    }
+
+    /// Looks up any number of nodes, each by the low four bytes of its number. Each answer is the one
+    /// that [`Image::find_node`] gives, a refusal too, and they stand in the order asked; numbers may
+    /// come twice. The library is called with up to 4,096 of them at a time, and tests the header once a
+    /// call and not once a number.
+    ///
+    /// ```
+    /// use rekwonuda::{Image, NodeId};
+    ///
+    /// let bytes = std::fs::read("../../samples/office.pst")?;
+    /// let image = Image::new(&bytes);
+    /// let answers = image.find_nodes(&[0x8082, 7, 0x8082]);
+    /// let inbox = answers[0]?.entry.expect("it is there");
+    /// assert_eq!(inbox.id, NodeId(0x8082));
+    /// assert!(answers[1]?.entry.is_none());
+    /// assert_eq!(answers[2], image.find_node(NodeId(0x8082)));
+    /// # Ok::<(), Box<dyn std::error::Error>>(())
+    /// ```
+    #[must_use]
+    pub fn find_nodes(&self, nodes: &[u64]) -> Vec<Result<Lookup<Node>, Refusal>> {
+        let mut places = vec![[0; NodeAnswer::WORDS]; nodes.len().min(sys::MOST_NODES)];
+        let mut answers = Vec::with_capacity(nodes.len());
+        for piece in nodes.chunks(sys::MOST_NODES) {
+            let listed = sys::find_nodes(self.0, piece, places.as_flattened_mut());
+            // A list and an area of these lengths are not refused; were they, no place would say so.
+            let listed = answered(listed).map(drop);
+            let fields = places.iter().take(piece.len());
+            answers.extend(fields.map(|fields| {
+                listed?;
+                let answer = answered(NodeAnswer::from_fields(*fields))?;
+                Ok(Lookup::<Node>::of(&answer))
+            }));
+        }
+        answers
     }
 
     /// Looks up a block. Bit 0 of the number counts neither here nor in the block tree; the block is

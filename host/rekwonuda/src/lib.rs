@@ -22,9 +22,10 @@
 //! Every answer and every refusal is that of the proved library `rkw`, which is called through crate
 //! `rekwonuda-sys`. This crate gives its calls Rust's types. Code of its own, tested and not proved, are
 //! the words of a refusal and what is put together from several proved answers: the iterators
-//! [`Image::nodes`], [`Image::blocks`] and [`Heap::properties`], and the buffers of [`Image::block_data`]
-//! and [`Image::node_data`]. Two calls read bytes of the image by themselves: [`Image::data_blocks`] a
-//! list of blocks, [`Image::wrong_node_key`] and its like the pages of a tree.
+//! [`Image::nodes`], [`Image::blocks`] and [`Heap::properties`], the pieces of [`Image::find_nodes`], and
+//! the buffers of [`Image::block_data`] and [`Image::node_data`]. Two calls read bytes of the image by
+//! themselves: [`Image::data_blocks`] a list of blocks, [`Image::wrong_node_key`] and its like the pages
+//! of a tree.
 #![deny(missing_docs)]
 #![forbid(unsafe_code)]
 #![warn(
