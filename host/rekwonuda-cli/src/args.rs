@@ -1,4 +1,6 @@
-use clap::{Args, Parser, Subcommand};
+use crate::names::{is_standard, STANDARD};
+use clap::error::ErrorKind;
+use clap::{Args, CommandFactory, Parser, Subcommand};
 use std::num::NonZeroUsize;
 use std::path::PathBuf;
 
@@ -7,7 +9,7 @@ const ABOUT: &str = "Checks and reads Outlook .pst files, and takes nothing in t
 const STATUS: &str = "\
 Exit status:
   0  accepted, or done
-  1  damaged: the file is refused
+  1  damaged: the file is refused; by find: a node is absent or refused
   2  wrong usage, or a file cannot be read or written
   3  what was asked for is absent
   4  not covered: another edition, a file over 1 GiB, a data tree of two
@@ -58,6 +60,12 @@ pub enum Command {
     Nodes(FileArgument),
     /// List all blocks: number, kind, offset, size and references
     Blocks(FileArgument),
+    /// Look up many nodes: a line for each number, in the order asked
+    ///
+    /// A node is found, with its type, parent, data block, subnode block and how many pages were read;
+    /// or it is absent; or it is refused, with what is wrong and where. Damage on the way to one node
+    /// says nothing of the others.
+    Find(FindArguments),
     /// Write the data of a node to standard output, or to a file
     Node(NodeArguments),
     /// List the properties of a node
@@ -92,6 +100,27 @@ pub struct FileArgument {
 
 #[derive(Args)]
 #[command(after_long_help = STATUS)]
+pub struct FindArguments {
+    /// The .pst file, or - for standard input
+    pub file: PathBuf,
+    /// The numbers of the nodes, as 290 or 0x122, or - alone to read them from standard input
+    ///
+    /// On standard input there may be any number of them, one or more a line, with blanks between. They
+    /// are all read before the first is looked up.
+    #[arg(value_name = "NUMBER", required = true, value_parser = asked)]
+    pub nodes: Vec<Asked>,
+}
+
+/// What stands for a node, or for many.
+#[derive(Clone, Copy, Debug, PartialEq, Eq)]
+pub enum Asked {
+    Node(u32),
+    /// The numbers are on standard input.
+    Standard,
+}
+
+#[derive(Args)]
+#[command(after_long_help = STATUS)]
 pub struct NodeArguments {
     /// The .pst file, or - for standard input
     pub file: PathBuf,
@@ -122,6 +151,25 @@ pub struct PropsArguments {
     pub node: u32,
 }
 
+impl Arguments {
+    /// Whether arguments that are right one by one are right together.
+    pub fn agree(self) -> Result<Self, clap::Error> {
+        let Command::Find(find) = &self.command else {
+            return Ok(self);
+        };
+        let wrong = match find.nodes.as_slice() {
+            [Asked::Standard] if is_standard(&find.file) => {
+                "standard input can be read once, and both FILE and NUMBER are -"
+            }
+            [_, _, ..] if find.nodes.contains(&Asked::Standard) => {
+                "a NUMBER of - stands for all numbers, and others are given beside it"
+            }
+            _ => return Ok(self),
+        };
+        Err(Self::command().error(ErrorKind::ArgumentConflict, wrong))
+    }
+}
+
 impl Command {
     pub fn name(&self) -> &'static str {
         match self {
@@ -129,13 +177,21 @@ impl Command {
             Command::Info(_) => "info",
             Command::Nodes(_) => "nodes",
             Command::Blocks(_) => "blocks",
+            Command::Find(_) => "find",
             Command::Node(_) => "node",
             Command::Props(_) => "props",
         }
     }
 }
 
-fn node_number(text: &str) -> Result<u32, String> {
+fn asked(text: &str) -> Result<Asked, String> {
+    match text {
+        STANDARD => Ok(Asked::Standard),
+        _ => node_number(text).map(Asked::Node),
+    }
+}
+
+pub fn node_number(text: &str) -> Result<u32, String> {
     let (digits, radix) = match text.strip_prefix("0x").or(text.strip_prefix("0X")) {
         Some(digits) => (digits, 16),
         None => (text, 10),
@@ -159,7 +215,6 @@ fn number(digits: &str, radix: u32) -> Option<u32> {
 #[cfg(test)]
 mod tests {
     use super::*;
-    use clap::CommandFactory;
 
     #[test]
     fn arguments_are_well_formed() {
@@ -174,6 +229,31 @@ mod tests {
         let wrong = ["", "0x", "-1", "+1", "0x+1", "0x-1", "122h", " 1"];
         for wrong in wrong.iter().chain(&["0x100000000", "4294967296"]) {
             assert!(node_number(wrong).is_err(), "{wrong}");
+        }
+    }
+
+    #[test]
+    fn numbers_may_be_left_to_standard_input() {
+        let agree = |words: &[&str]| {
+            let words = ["rekwonuda", "find"].iter().chain(words);
+            Arguments::try_parse_from(words).and_then(Arguments::agree)
+        };
+        for right in [
+            &["x", "1"][..],
+            &["x", "1", "0x2", "1"],
+            &["-", "1"],
+            &["x", "-"],
+        ] {
+            assert!(agree(right).is_ok(), "{right:?}");
+        }
+        for wrong in [
+            &["x"][..],
+            &["-", "-"],
+            &["x", "1", "-"],
+            &["x", "-", "-"],
+            &["x", "y"],
+        ] {
+            assert!(agree(wrong).is_err(), "{wrong:?}");
         }
     }
 

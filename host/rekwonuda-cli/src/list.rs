@@ -8,12 +8,8 @@ use serde_json::{json, Value};
 
 /// Lists all nodes.
 pub fn nodes(source: &Source, out: &mut Output<'_>) -> Result<Outcome, Failure> {
-    let head = format!(
-        "{:>10}  {:<28}{:>10}  {:>18}  {:>18}",
-        "node", "type", "parent", "data", "subnode"
-    );
     out.begin_list("nodes")?;
-    let mut table = Table::new(head);
+    let mut table = Table::new(node_head());
     for node in source.image().nodes() {
         let node = node.at(Spot::NodeTree)?;
         out.entry(&node_facts(&node))?;
@@ -68,7 +64,14 @@ impl Table {
     }
 }
 
-fn node_row(node: &Node) -> String {
+pub fn node_head() -> String {
+    format!(
+        "{:>10}  {:<28}{:>10}  {:>18}  {:>18}",
+        "node", "type", "parent", "data", "subnode"
+    )
+}
+
+pub fn node_row(node: &Node) -> String {
     let block = |block: Option<BlockId>| block.map_or("-".to_string(), |block| block.to_string());
     let parent = match node.parent {
         NodeId(0) => "-".to_string(),
@@ -83,7 +86,7 @@ fn node_row(node: &Node) -> String {
     )
 }
 
-fn node_facts(node: &Node) -> Value {
+pub fn node_facts(node: &Node) -> Value {
     let block = |block: Option<BlockId>| block.map(|block| block.0.to_string());
     json!({
         "node": node.id.0,

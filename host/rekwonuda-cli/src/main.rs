@@ -5,6 +5,7 @@ mod account;
 mod advice;
 mod args;
 mod check;
+mod find;
 mod info;
 mod keys;
 mod list;
@@ -36,7 +37,7 @@ use std::path::Path;
 use std::process::ExitCode;
 
 fn main() -> ExitCode {
-    let outcome = match Arguments::try_parse() {
+    let outcome = match Arguments::try_parse().and_then(Arguments::agree) {
         Ok(arguments) => answer(&arguments),
         Err(error) if error.use_stderr() => misused(&error),
         Err(help) => helped(&help),
@@ -55,6 +56,7 @@ fn answer(arguments: &Arguments) -> Outcome {
         Command::Check(check) if many::is_many(check) => return many::check_many(check, form),
         Command::Check(check) => &check.paths[0],
         Command::Info(file) | Command::Nodes(file) | Command::Blocks(file) => &file.file,
+        Command::Find(find) => &find.file,
         Command::Node(node) => &node.file,
         Command::Props(props) => &props.file,
     };
@@ -89,6 +91,7 @@ fn run(command: &Command, source: &Source, out: &mut Output<'_>) -> Result<Outco
         Command::Info(_) => info::info(source, out),
         Command::Nodes(_) => list::nodes(source, out),
         Command::Blocks(_) => list::blocks(source, out),
+        Command::Find(arguments) => find::find(source, arguments, out),
         Command::Node(arguments) => node::node(source, arguments, out),
         Command::Props(arguments) => props::props(source, arguments, out),
     }

@@ -11,6 +11,8 @@ pub enum Outcome {
     Accepted,
     Done,
     Absent,
+    /// Of several things that were asked for, some are absent.
+    Incomplete,
     NotCovered,
     Damaged,
     Error,
@@ -21,7 +23,7 @@ impl Outcome {
     pub fn status(self) -> u8 {
         match self {
             Outcome::Accepted | Outcome::Done => 0,
-            Outcome::Damaged => 1,
+            Outcome::Damaged | Outcome::Incomplete => 1,
             Outcome::Error => 2,
             Outcome::Absent => 3,
             Outcome::NotCovered => 4,
@@ -35,6 +37,7 @@ impl Outcome {
             Outcome::Damaged => "damaged",
             Outcome::Error => "error",
             Outcome::Absent => "absent",
+            Outcome::Incomplete => "incomplete",
             Outcome::NotCovered => "not covered",
         }
     }

@@ -7,6 +7,7 @@ use serde_json::{json, Value};
 use std::fmt::Display;
 use std::io::{self, BufWriter, IsTerminal, Write};
 use std::path::Path;
+use std::slice;
 
 /// The version of the shape that docs/JSON.md describes.
 const VERSION: u64 = 1;
@@ -149,7 +150,7 @@ impl<'a> Output<'a> {
             (Ok(outcome), _) => (outcome, None),
             (Err(Failure::Refused(refusal, spot)), Some(source)) => {
                 let account = Account::new(source, refusal, &spot, &mut Keys::new(source));
-                self.refused(&account)?;
+                self.refused(slice::from_ref(&account))?;
                 (account.outcome, None)
             }
             (Err(Failure::Absent(message)), _) => (Outcome::Absent, Some(message)),
@@ -164,17 +165,20 @@ impl<'a> Output<'a> {
         Ok(outcome)
     }
 
-    /// What the library refused, on standard error or in the JSON object.
-    fn refused(&mut self, account: &Account) -> Result<(), Failure> {
+    /// What the library refused: all of it in the JSON object, or the first on standard error.
+    pub fn refused(&mut self, accounts: &[Account]) -> Result<(), Failure> {
         self.sink.flush()?;
         if self.is_json() {
             self.begin_list("refusals")?;
-            self.entry(&account.facts())?;
-            self.end_list()
-        } else {
-            complain_plainly(&account.text());
-            Ok(())
+            for account in accounts {
+                self.entry(&account.facts())?;
+            }
+            return self.end_list();
         }
+        if let Some(account) = accounts.first() {
+            complain_plainly(&account.text());
+        }
+        Ok(())
     }
 
     fn message(&mut self, message: &str) -> Result<(), Failure> {

@@ -159,6 +159,52 @@ fn node_agrees(path: &Path, image: &[u8], node: u32) {
     }
 }
 
+/// The outcome of one number by the model: found, absent, or refused with that number and place.
+fn lookup_agrees(told: &Value, expected: Result<model::Lookup<model::Node>, Refusal>) {
+    match expected {
+        Ok(model::Lookup::Found { pages, entry }) => {
+            assert_eq!(told["outcome"], "found", "{told}");
+            assert_eq!(
+                (number(&told["node"]), number(&told["pages"])),
+                (entry.node.into(), pages)
+            );
+            assert_eq!(number(&told["parent"]), u64::from(entry.parent));
+        }
+        Ok(model::Lookup::Absent { pages }) => {
+            assert_eq!(
+                (&told["outcome"], number(&told["pages"])),
+                (&"absent".into(), pages)
+            );
+        }
+        Err(refusal) => {
+            assert_eq!(told["outcome"], "refused", "{told}");
+            let told = ["number", "place", "more"].map(|name| number(&told[name]));
+            assert_eq!(told, [refusal.number, refusal.place, refusal.more]);
+        }
+    }
+}
+
+fn find_agrees(path: &Path, image: &[u8], nodes: &[u64]) {
+    let asked: Vec<u32> = nodes.iter().map(|node| *node as u32).collect();
+    let words: Vec<String> = asked.iter().map(u32::to_string).collect();
+    let words: Vec<&str> = words.iter().map(String::as_str).collect();
+    let run = run(&["find", "--json"], path, &words);
+    let answer = run.json();
+    let told = answer["nodes"].as_array().unwrap();
+    assert_eq!(told.len(), asked.len());
+    let mut expected_status = 0;
+    for (told, node) in told.iter().zip(asked) {
+        let expected = model::find_node(image, node.into());
+        expected_status = match expected {
+            Ok(model::Lookup::Found { .. }) => expected_status,
+            Ok(model::Lookup::Absent { .. }) => 1,
+            Err(refusal) => status(image, refusal),
+        };
+        lookup_agrees(told, expected);
+    }
+    assert_eq!(run.status, expected_status, "{answer}");
+}
+
 fn goes_through(name: &str, kinds: &[Damage]) {
     for seed in 0..SEEDS {
         let built = build_small(seed);
@@ -169,6 +215,8 @@ fn goes_through(name: &str, kinds: &[Damage]) {
                 let path = file(&format!("{name}.pst"), &spoilt.image);
                 check_agrees(&path, &spoilt.image);
                 all_agrees(&path, &spoilt.image, &built);
+                let nodes = [built.node_numbers(), spoilt.nodes.clone(), vec![0]].concat();
+                find_agrees(&path, &spoilt.image, &nodes);
                 for node in spoilt.nodes.iter().take(2) {
                     node_agrees(&path, &spoilt.image, *node as u32);
                 }

@@ -23,6 +23,9 @@ fn hold_commands(shapes: &Shapes, path: &Path, nodes: &[u64]) {
     for words in commands {
         shapes.hold_run(&run(&[words, &["--json"]].concat(), path, &[]));
     }
+    let numbers: Vec<String> = nodes.iter().map(u64::to_string).collect();
+    let numbers: Vec<&str> = numbers.iter().map(String::as_str).collect();
+    shapes.hold_run(&run(&["find", "--json"], path, &numbers));
     for node in nodes {
         for command in ["node", "props"] {
             shapes.hold_run(&run(&[command, "--json"], path, &[&node.to_string()]));
@@ -55,8 +58,9 @@ fn answers_have_the_shape_of_the_page() {
 }
 
 fn hold_failures(shapes: &Shapes) {
-    let wrong: [&[&str]; 4] = [
+    let wrong: [&[&str]; 5] = [
         &["--json"],
+        &["find", "--json", "-", "-"],
         &["--json", "mend"],
         &["check", "--json"],
         &["check", "x", "--jobs", "+1", "--json"],
@@ -73,6 +77,7 @@ fn hold_failures(shapes: &Shapes) {
         assert_eq!(answer["file"], "no/such.pst");
         assert_eq!(answer["status"], 2);
     }
+    shapes.hold_run(&run(&["find", "--json"], Path::new("no/such.pst"), &["1"]));
     let unwritable = ["0x21", "-o", "no/such.bin"];
     shapes.hold_run(&run(&["node", "--json"], &office(), &unwritable));
 }

@@ -2,6 +2,7 @@
 
 mod check;
 mod damaged;
+mod find;
 #[path = "../../../rekwonuda/tests/images/mod.rs"]
 mod images;
 mod json;

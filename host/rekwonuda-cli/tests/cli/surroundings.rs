@@ -13,7 +13,8 @@ use std::process::Stdio;
 #[test]
 fn wrong_usage_has_status_2() {
     let nothing: [&str; 0] = [];
-    for words in [&["check"][..], &["node"], &["props"], &["mend"], &nothing] {
+    let commands = [&["check"][..], &["find"], &["node"], &["props"], &["mend"]];
+    for words in commands.iter().chain(&[&nothing[..]]) {
         let run = run(words, Path::new("--none"), &[]);
         assert_eq!(run.status, 2, "{words:?}");
         assert!(run.errors.contains("Usage"), "{}", run.errors);
@@ -48,8 +49,10 @@ fn a_reader_that_stops_reading_is_no_panic() {
     };
     let path = file("unread.pst", &build(3, &plan).image);
     let several = [path.to_str().unwrap(); 3];
-    let lists: [(&[&str], &[&str]); 5] = [
+    let numbers = vec!["1"; 20_000];
+    let lists: [(&[&str], &[&str]); 6] = [
         (&["nodes"], &[]),
+        (&["find"], &numbers),
         (&["nodes", "--json"], &[]),
         (&["check"], &[]),
         (&["check"], &several),
@@ -80,6 +83,8 @@ fn standard_error_may_be_full_or_closed() {
         ("info none.pst", 2),
         ("info bad.pst", 1),
         ("node in.pst 0x20", 3),
+        ("find in.pst 0x21 0x20", 1),
+        ("find bad.pst 0x21", 1),
         ("props in.pst 0x200284", 4),
         ("node in.pst 0x21 -o in.pst", 2),
         ("check none.pst bad.pst", 2),
@@ -105,6 +110,11 @@ fn standard_output_that_is_full_has_status_2() {
         let told = "cannot write to standard output: No space left";
         assert!(run.errors.contains(told), "{words}: {}", run.errors);
     }
+    let found = run_in(
+        Path::new("."),
+        &format!("./rekwonuda find {named} 0x21 >/dev/full"),
+    );
+    assert_eq!(found.status, 2);
     let several = run_in(
         Path::new("."),
         &format!("./rekwonuda check {named} {named} >/dev/full"),
@@ -157,7 +167,7 @@ fn help_is_short_or_long_and_tells_the_exit_statuses() {
     assert!(short.text.len() < long.text.len());
     let json = words(&["--json", "--help"]);
     assert_eq!((json.status, json.text), (0, long.text));
-    for command in ["check", "node"] {
+    for command in ["check", "find", "node"] {
         let [short, long] = ["-h", "--help"].map(|word| words(&[command, word]));
         assert!(short.text.lines().count() < long.text.lines().count());
         assert!(long.says("3 what was asked for is absent"), "{}", long.text);
