@@ -8,11 +8,17 @@
 #include <string.h>
 
 enum { IMAGE = 27648, BLOCK = 4, OFFSET = 0x5800, SIZE = 108, ROOM = 128, ITEM = 0x60, LEAF = 0x5600 };
+enum { LISTED = 4, MOST = 4096, WORDS = 9, AREA = WORDS * (MOST + 1), VERSION = 10 };
 
 static uint8_t image[IMAGE + 1];
 static uint8_t filled[IMAGE];
 static uint8_t keyed[IMAGE];
 static uint8_t out[SIZE + 4];
+
+/* Nodes to look up: one found, one absent, one refused, and the first again; and room for one number
+ * too many, each with a place. */
+static uint64_t numbers[MOST + 1] = {0x122, 0x20, 0x804F, 0x122};
+static uint64_t places[AREA];
 
 /* The heap: three items, at 12, 20 and 36, and their map at 96. */
 static uint8_t heap[SIZE] = {
@@ -86,6 +92,24 @@ static void node(const char *call, struct rkw_node_answer a)
     field("subnode", a.subnode);
     field("parent", a.parent);
     printf("\n");
+}
+
+/* Looks up the first `count` numbers with an area of `words` words, and prints up to which word the
+ * area changed, and the places of an answered list. */
+static void call_find_nodes(const uint8_t *in, size_t count, size_t words)
+{
+    memset(places, 0xAA, sizeof places);
+    struct rkw_answer a = rkw_find_nodes(in, IMAGE, numbers, count, places, words);
+    size_t written = AREA;
+    while (written && places[written - 1] == UINT64_C(0xAAAAAAAAAAAAAAAA)) written--;
+    refusal("rkw_find_nodes", a.refusal, a.place, a.more);
+    field("written", written);
+    printf("\n");
+    for (size_t i = 0; !a.refusal && i < count; i++) {
+        struct rkw_node_answer place;
+        memcpy(&place, places + WORDS * i, sizeof place);
+        node("place", place);
+    }
 }
 
 static void block(const char *call, struct rkw_block_answer a)
@@ -199,6 +223,18 @@ static void call_trees(void)
     block("rkw_next_block", rkw_next_block(image, IMAGE, 0x71));
 }
 
+static void call_lists(void)
+{
+    call_find_nodes(image, LISTED, WORDS * LISTED + 5);
+    call_find_nodes(image, LISTED, WORDS * LISTED - 1);
+    call_find_nodes(image, MOST + 1, AREA);
+    call_find_nodes(image, MOST + 1, 0);
+    call_find_nodes(image, 0, AREA);
+    memcpy(keyed, image, IMAGE);
+    keyed[VERSION] = 14;
+    call_find_nodes(keyed, LISTED, WORDS * LISTED);
+}
+
 /* The leaf's 14 keys run from 0x21 to 0x62B, and its range from 0x21 to below 0x64C. */
 static void call_keys(void)
 {
@@ -246,6 +282,7 @@ int main(int count, char **words)
     }
     make_block();
     call_trees();
+    call_lists();
     call_keys();
     call_blocks();
     call_heap();
