@@ -1,4 +1,5 @@
-//! Every call in the proved library and in the model, side by side.
+//! Every call in the proved library and in the model, side by side; a call for a list also beside as
+//! many single calls.
 
 use bench::cases;
 use criterion::{criterion_group, criterion_main, Criterion};
@@ -9,6 +10,9 @@ fn calls(criterion: &mut Criterion) {
         let mut group = criterion.benchmark_group(format!("{}, {}", case.call, case.input));
         group.bench_function("proved", |bencher| bencher.iter(&mut case.proved));
         group.bench_function("model", |bencher| bencher.iter(&mut case.model));
+        if let Some(singles) = &mut case.singles {
+            group.bench_function("single calls", |bencher| bencher.iter(&mut *singles));
+        }
         group.finish();
     }
 }

@@ -3,18 +3,23 @@
 use model::build::heaps::{property_context, HeapPlan};
 use model::build::{build, Built, Plan};
 use model::random::Random;
-use rekwonuda_sys as proved;
+use rekwonuda_sys::{self as proved, NodeAnswer, MOST_NODES};
 use std::sync::Arc;
 
 const LARGEST_BLOCK: usize = 8_176;
 const SEED: u64 = 1;
 
-/// One call on one input, both ways. What they answer is a number that tells their work apart.
+/// A call as it is timed. What it answers is a number that tells its work apart.
+pub type Timed = Box<dyn FnMut() -> u64>;
+
+/// One call on one input, both ways.
 pub struct Case {
     pub call: &'static str,
     pub input: String,
-    pub proved: Box<dyn FnMut() -> u64>,
-    pub model: Box<dyn FnMut() -> u64>,
+    pub proved: Timed,
+    pub model: Timed,
+    /// Of a call for a list: as many single calls of the proved library.
+    pub singles: Option<Timed>,
 }
 
 impl Case {
@@ -32,7 +37,16 @@ impl Case {
             input,
             proved: Box::new(proved),
             model: Box::new(model),
+            singles: None,
         }
+    }
+
+    /// The same work by single calls, which must answer the same too.
+    fn with_singles(mut self, mut singles: impl FnMut() -> u64 + 'static) -> Case {
+        let answer = (self.proved)();
+        assert_eq!(answer, singles(), "{}, {}", self.call, self.input);
+        self.singles = Some(Box::new(singles));
+        self
     }
 }
 
@@ -44,6 +58,7 @@ pub fn cases() -> Vec<Case> {
         headers(),
         tree_checks(),
         node_lookups(),
+        node_lists(),
         block_lookups(),
         block_tests(),
         node_reads(),
@@ -174,6 +189,78 @@ fn node_lookups() -> Vec<Case> {
         ));
     }
     cases
+}
+
+/// Full lists in trees of three depths: any nodes, and nodes next to one another.
+fn node_lists() -> Vec<Case> {
+    let trees = [(1, 300), (2, 6_000), (3, 120_000)];
+    let mut cases = Vec::new();
+    for (node_level, bare_nodes) in trees {
+        let (built, _) = image(Plan {
+            node_level,
+            bare_nodes,
+            ..Plan::default()
+        });
+        let known = built.node_numbers();
+        let lists = [
+            ("in any order", drawn(&known)),
+            ("neighbours", neighbours(&known)),
+        ];
+        for (kind, nodes) in lists {
+            let input = format!("{MOST_NODES} {kind}; level {node_level}, {bare_nodes} nodes");
+            cases.push(node_list(&built, &Arc::new(nodes), input));
+        }
+    }
+    cases
+}
+
+/// Numbers in any order, some of them more than once.
+fn drawn(known: &[u64]) -> Vec<u64> {
+    let mut random = Random::new(SEED);
+    let draw = |_| random.pick(known).copied().unwrap_or(0);
+    (0..MOST_NODES).map(draw).collect()
+}
+
+/// Numbers that ascend without a gap, from the midst of the tree; of a tree with fewer nodes all of them,
+/// again and again.
+fn neighbours(known: &[u64]) -> Vec<u64> {
+    let before = known.len().saturating_sub(MOST_NODES) / 2;
+    let ascending = known.iter().cycle().skip(before);
+    ascending.take(MOST_NODES).copied().collect()
+}
+
+/// A list in one call, both ways, and by single calls; all three fill an area of places.
+fn node_list(built: &Arc<Built>, nodes: &Arc<Vec<u64>>, input: String) -> Case {
+    let (left, right, single) = (Arc::clone(built), Arc::clone(built), Arc::clone(built));
+    let (listed, also_listed, one_by_one) =
+        (Arc::clone(nodes), Arc::clone(nodes), Arc::clone(nodes));
+    let mut places = vec![[0; NodeAnswer::WORDS]; nodes.len()];
+    let (mut also_places, mut single_places) = (places.clone(), places.clone());
+    Case::new(
+        "find_nodes",
+        input,
+        move || {
+            let area = places.as_flattened_mut();
+            assert_eq!(proved::find_nodes(&left.image, &listed, area).refusal, 0);
+            sum(&places)
+        },
+        move || {
+            let area = also_places.as_flattened_mut();
+            model::find_nodes(&right.image, &also_listed, area).expect("the list is not too long");
+            sum(&also_places)
+        },
+    )
+    .with_singles(move || {
+        for (place, node) in single_places.iter_mut().zip(one_by_one.iter()) {
+            *place = proved::find_node(&single.image, *node).fields();
+        }
+        sum(&single_places)
+    })
+}
+
+fn sum(places: &[[u64; NodeAnswer::WORDS]]) -> u64 {
+    let words = places.as_flattened().iter();
+    words.fold(0, |sum, word| sum.wrapping_add(*word))
 }
 
 fn block_lookups() -> Vec<Case> {
