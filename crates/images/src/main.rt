@@ -2,6 +2,7 @@
 mod answers;
 mod blocks;
 mod heaps;
+mod lists;
 mod nodes;
 mod text;
 
@@ -19,6 +20,7 @@ fn image_lines(name: &[u8]) {
     said::say(b"\n");
     answers::whole_lines(&buffer[..n]);
     nodes::list_nodes(&buffer[..n], &mut out);
+    lists::list_lines(&buffer[..n]);
     blocks::list_blocks(&buffer[..n], &mut out);
 }
 
@@ -105,6 +107,12 @@ fn key_images() {
     image_lines(b"58-keys-index-last.img");
 }
 
+// Request 3/13: a list of nodes that meets found and refused ones, and one that lies in several leaves.
+fn list_images() {
+    image_lines(b"59-list-mixed.img");
+    image_lines(b"60-list-level-3.img");
+}
+
 fn main() {
     valid_images();
     header_images();
@@ -112,4 +120,5 @@ fn main() {
     data_images();
     bit_zero_images();
     key_images();
+    list_images();
 }
