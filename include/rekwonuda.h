@@ -13,7 +13,8 @@
  *   refusal  0 where the call is answered, else the number of the first fault met (below)
  *   place    the place of that fault: an offset in the image, or 0
  *   more     what else the refusal says: for 11 and 21 the index of the first entry of the page that
- *            is at fault, counted from 0, for 17 the length needed, otherwise 0
+ *            is at fault, counted from 0, for 17 the length needed or, of a list of nodes, a number of
+ *            places, otherwise 0
  * A field that an answer does not use is 0. A refused call leaves every byte of a buffer as it was.
  * "Absent" is an ordinary answer and no refusal: `found` is 0 where it is absent, 1 where it is there.
  * All offsets are in bytes and begin at 0.

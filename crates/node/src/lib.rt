@@ -15,7 +15,7 @@ ghost use Rattle.keys.specs.Search.{joined};
 ghost use Rattle.header.specs.Header.{headerFits};
 ghost use Rattle.laws.specs.Front.{fronted};
 ghost use Rattle.block.specs.Block.{checkedBlock, blockBytes, internal};
-ghost use Rattle.node.specs.Content.{numberAt, numbersFrom, noneInternal, shapeFits, countIn, kidsOf, treeContent, blockContent, dataOf, nodeContent, answerTo, filledBy};
+ghost use Rattle.node.specs.Content.{numberAt, numbersFrom, noneInternal, shapeFits, kidsOf, treeContent, blockContent, dataOf, nodeContent, answerTo, filledBy};
 ghost use Rattle.node.specs.Content.{bytes as bytesOf};
 ghost use Rattle.node.specs.Steps.{measuredIn, refusedIn, IsListed, AllListed, bytesAt, refusedSum, refusedRead, goneRead};
 

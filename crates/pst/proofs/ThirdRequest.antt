@@ -1,5 +1,5 @@
 -- A list of nodes in one call. Assumes nothing.
-use Prim.Native.Nat.{ℕ, _+_, _*_, _/_, _≤_, _<_}
+use Prim.Native.Nat.{ℕ, _*_, _/_, _≤_, _<_}
 use mathlib.Core.Path.{_≡_, refl, sym, ap, _∙_}
 use mathlib.Core.Bool.{false}
 use mathlib.Core.Logic.{_↔_}
@@ -19,7 +19,7 @@ use Rattle.tree.specs.declared.FoundNode.{FoundNode}
 use Rattle.tree.specs.declared.FoundNode.the-variants as node
 use Rattle.tree.specs.Answers.{nodeOf}
 use Rattle.tree.proofs.Ways.{start-refused, node-refused}
-use Rattle.nodelist.specs.Places.{nodeWords, placeOf, listFits, areaOf}
+use Rattle.nodelist.specs.Places.{nodeWords, placeOf, listFits}
 use Rattle.nodelist.proofs.Words.{words-injective}
 use Rattle.nodelist.proofs.ListLaws.{too-many, too-short, taken-exactly, area-kept, place-is, past-stays, area-length}
 use Rattle.pst.specs.Meaning.{answered, refuses, refusalMeans, verdictMeans, headerMeans, nodeMeans}

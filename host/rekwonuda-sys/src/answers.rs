@@ -20,8 +20,8 @@ macro_rules! answers {
             pub refusal: u64,
             /// The place of that fault: an offset in the image, or 0.
             pub place: u64,
-            /// What else the refusal says: for 17 the length needed, for 11 and 21 the index of the
-            /// first entry at fault, from 0, otherwise 0.
+            /// What else the refusal says: for 17 the length needed or, of a list of nodes, a number of
+            /// places, for 11 and 21 the index of the first entry at fault, from 0, otherwise 0.
             pub more: u64,
             $($(#[doc = $field_about])* pub $field: u64,)*
         }

@@ -14,7 +14,6 @@ use Rattle.tree.proofs.Ways.{leads-nowhere}
 use Rattle.tree.specs.declared.FoundNode.{FoundNode}
 use Rattle.nodelist.specs.Places.{nodeWords, placeOf, placesOf}
 use Rattle.nodelist.proofs.Words.{pieces-length, pieces-on, place-length}
-use borrow.Author.Needs.{needs}
 use Rattle.nodelist.proofs.fill.Statement.{statement}
 use Rattle.nodelist.proofs.fill.Tie as tie
 

@@ -1,5 +1,4 @@
-use mathlib.Core.Path.{ap, _∙_, subst}
-use Rattle.tree.specs.declared.Way.{Way}
+use mathlib.Core.Path.{_∙_, subst}
 use Rattle.tree.specs.Answers.{shown}
 use Rattle.tree.specs.Ways.{atEnd, Leading, FromRoot}
 use borrow.Author.Needs.{needs}

@@ -1,6 +1,5 @@
 use Prim.Native.Nat.{ℕ}
 use mathlib.Core.Path.{ap, _∙_}
-use Rattle.page.specs.declared.Layout.{Layout}
 use Rattle.page.specs.Layout.{nbt}
 use Rattle.page.proofs.Fairs.{fair-nbt}
 use Rattle.tree.specs.Answers.{shown, asNode, nodeOf}

@@ -1,6 +1,5 @@
 use mathlib.Core.Path.{refl, sym, ap, _∙_}
 use native.Mathlib.Omega.{arith}
-use Prim.Native.Nat.{ℕ}
 use Rattle.header.proofs.HeaderLaws.{header-length}
 use Rattle.keys.specs.declared.Sought.the-variants.{Equal}
 use Rattle.page.specs.Page.{pageFits}
