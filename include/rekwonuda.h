@@ -147,8 +147,8 @@ struct rkw_node_answer rkw_find_node(const uint8_t *image, size_t len, uint64_t 
  * rkw_node_answer in its order, so that an area of such structs can be lent; an area of `words` words
  * has words / 9 places, rounded down. A refused header or page is told in the places of the numbers
  * that met it, not by the call. Numbers may come twice, in any order. Words behind the last place of
- * the list stay as they were. The header is tested once for the whole list; an empty list is answered
- * without a look at the image. `nodes` and `image` must not overlap `places`.
+ * the list stay as they were. An empty list is answered whatever the image holds. `nodes` and `image`
+ * must not overlap `places`.
  * Refusal 17, place 0, and no word is written: over 4,096 numbers, and `more` is 4,096; then fewer
  * places than numbers, and `more` is the count of numbers. */
 struct rkw_answer rkw_find_nodes(const uint8_t *image, size_t len, const uint64_t *nodes, size_t count, uint64_t *places, size_t words);

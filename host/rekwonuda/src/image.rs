@@ -75,8 +75,7 @@ impl<'a> Image<'a> {
     /// Looks up any number of nodes, each by the low four bytes of its number. Each answer is the one
     /// that [`Image::find_node`] gives, a refusal too, and they stand in the order asked; numbers may
     /// come twice. A refusal, 1 to 11 or 21, stands in the places of the numbers that met it; one of the
-    /// header stands in each. The library is called with up to 4,096 numbers at a time, and tests the
-    /// header once a call and not once a number.
+    /// header stands in each. The library is called with up to 4,096 numbers at a time.
     ///
     /// ```
     /// use rekwonuda::{Image, NodeId};
