@@ -1,5 +1,5 @@
 //! Every call in the proved library and in the model, side by side; a call for a list also beside as
-//! many single calls.
+//! many single calls, and the checksum also beside the one with a single table.
 
 use bench::cases;
 use criterion::{criterion_group, criterion_main, Criterion};
@@ -12,6 +12,9 @@ fn calls(criterion: &mut Criterion) {
         group.bench_function("model", |bencher| bencher.iter(&mut case.model));
         if let Some(singles) = &mut case.singles {
             group.bench_function("single calls", |bencher| bencher.iter(&mut *singles));
+        }
+        if let Some(one_table) = &mut case.one_table {
+            group.bench_function("one table", |bencher| bencher.iter(&mut *one_table));
         }
         group.finish();
     }

@@ -1,5 +1,8 @@
 //! The calls that are timed, each on the same input in the proved library and in the model.
 
+mod checksums;
+
+use checksums::checksums;
 use model::build::heaps::{property_context, HeapPlan};
 use model::build::{build, Built, Plan};
 use model::random::Random;
@@ -20,6 +23,8 @@ pub struct Case {
     pub model: Timed,
     /// Of a call for a list: as many single calls of the proved library.
     pub singles: Option<Timed>,
+    /// Of the checksum: one byte at a time, with one table.
+    pub one_table: Option<Timed>,
 }
 
 impl Case {
@@ -38,15 +43,27 @@ impl Case {
             proved: Box::new(proved),
             model: Box::new(model),
             singles: None,
+            one_table: None,
         }
     }
 
-    /// The same work by single calls, which must answer the same too.
-    fn with_singles(mut self, mut singles: impl FnMut() -> u64 + 'static) -> Case {
-        let answer = (self.proved)();
-        assert_eq!(answer, singles(), "{}, {}", self.call, self.input);
-        self.singles = Some(Box::new(singles));
+    /// The same work by single calls.
+    fn with_singles(mut self, singles: impl FnMut() -> u64 + 'static) -> Case {
+        self.singles = Some(self.alike(singles));
         self
+    }
+
+    /// The same checksum with one table.
+    fn with_one_table(mut self, one_table: impl FnMut() -> u64 + 'static) -> Case {
+        self.one_table = Some(self.alike(one_table));
+        self
+    }
+
+    /// A further way, which must answer the same too.
+    fn alike(&mut self, mut way: impl FnMut() -> u64 + 'static) -> Timed {
+        let answer = (self.proved)();
+        assert_eq!(answer, way(), "{}, {}", self.call, self.input);
+        Box::new(way)
     }
 }
 
@@ -71,19 +88,6 @@ pub fn cases() -> Vec<Case> {
 
 fn bytes(length: usize) -> Vec<u8> {
     Random::new(SEED).bytes(length)
-}
-
-fn checksums() -> Vec<Case> {
-    let case = |length: usize| {
-        let (left, right) = (bytes(length), bytes(length));
-        Case::new(
-            "checksum",
-            format!("{length} bytes"),
-            move || proved::checksum(&left),
-            move || model::checksum(&right).into(),
-        )
-    };
-    vec![case(4096), case(8192)]
 }
 
 type Coding<R> = fn(u8, u64, &mut [u8]) -> R;

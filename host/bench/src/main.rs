@@ -1,9 +1,10 @@
 //! Times every call in the proved library and in the model, in alternation, and prints a table; behind it
-//! a second one, of calls for a list beside as many single calls of the proved library.
+//! a second one, of calls for a list beside as many single calls of the proved library, and a third, of
+//! the checksum beside plain Rust with the same eight tables, which is the model's, and with one table.
 //!
 //! `ratios [WORD]` takes only the calls whose name has that word in it. The ratio is taken in each
 //! round, right after one another, so that a busy machine slows both; its median is printed, and
-//! between which ratios the middle half of the rounds lay. Both tables are of the same rounds.
+//! between which ratios the middle half of the rounds lay. All tables are of the same rounds.
 
 use bench::{cases, Case, Timed};
 use std::env;
@@ -15,38 +16,52 @@ const ROUND: Duration = Duration::from_millis(5);
 
 fn main() {
     let word = env::args().nth(1).unwrap_or_default();
-    let mut beside_singles = Vec::new();
-    print_head(["call", "input", "proved, ns", "model, ns"]);
+    let (mut beside_singles, mut beside_one_table) = (Vec::new(), Vec::new());
+    print_head("proved", &["model"]);
     for mut case in cases() {
         if case.call.contains(&word) {
             let times = measure(&mut case);
-            println!("{}", row(&case, &times.proved, &times.model));
-            let singles = times.singles.as_ref();
-            beside_singles.extend(singles.map(|singles| row(&case, &times.proved, singles)));
+            println!("{}", row(&case, &times.proved, &[&times.model]));
+            if let Some(singles) = &times.singles {
+                beside_singles.push(row(&case, &times.proved, &[singles]));
+            }
+            if let Some(one_table) = &times.one_table {
+                let others = [&times.model[..], one_table];
+                beside_one_table.push(row(&case, &times.proved, &others));
+            }
         }
     }
     if !beside_singles.is_empty() {
         println!("\nOne call for a list, beside as many single calls:\n");
-        print_head(["call", "input", "one call, ns", "single calls, ns"]);
+        print_head("one call", &["single calls"]);
         println!("{}", beside_singles.join("\n"));
+    }
+    if !beside_one_table.is_empty() {
+        println!("\nThe checksum, beside plain Rust with eight tables and with one:\n");
+        print_head("proved", &["plain Rust", "one table"]);
+        println!("{}", beside_one_table.join("\n"));
     }
 }
 
-fn print_head([call, input, left, right]: [&str; 4]) {
-    println!("| {call} | {input} | {left} | {right} | ratio | middle half |");
-    println!("|---|---|---:|---:|---:|---|");
+fn print_head(left: &str, others: &[&str]) {
+    let beside = |other| format!(" {other}, ns | ratio | middle half |");
+    let columns: String = others.iter().map(beside).collect();
+    println!("| call | input | {left}, ns |{columns}");
+    println!("|---|---|---:|{}", "---:|---:|---|".repeat(others.len()));
 }
 
-fn row(case: &Case, left: &[f64], right: &[f64]) -> String {
-    let ratios = left.iter().zip(right).map(|(left, right)| left / right);
-    let (left, right) = (sorted(left.iter().copied()), sorted(right.iter().copied()));
-    let ratios = sorted(ratios);
+/// Beside the left one's time, each other one's time and what the left one's is to it.
+fn row(case: &Case, left: &[f64], others: &[&[f64]]) -> String {
+    let columns: String = others.iter().map(|right| beside(left, right)).collect();
+    let time = sorted(left.iter().copied())[ROUNDS / 2];
+    format!("| `{}` | {} | {time:.0} |{columns}", case.call, case.input)
+}
+
+fn beside(left: &[f64], right: &[f64]) -> String {
+    let time = sorted(right.iter().copied())[ROUNDS / 2];
+    let ratios = sorted(left.iter().zip(right).map(|(left, right)| left / right));
     format!(
-        "| `{}` | {} | {:.0} | {:.0} | {:.2} | {:.2} to {:.2} |",
-        case.call,
-        case.input,
-        left[ROUNDS / 2],
-        right[ROUNDS / 2],
+        " {time:.0} | {:.2} | {:.2} to {:.2} |",
         ratios[ROUNDS / 2],
         ratios[ROUNDS / 4],
         ratios[ROUNDS * 3 / 4],
@@ -58,16 +73,19 @@ struct Times {
     proved: Vec<f64>,
     model: Vec<f64>,
     singles: Option<Vec<f64>>,
+    one_table: Option<Vec<f64>>,
 }
 
 fn measure(case: &mut Case) -> Times {
     let mut calls = vec![&mut case.proved, &mut case.model];
     calls.extend(case.singles.as_mut());
+    calls.extend(case.one_table.as_mut());
     let mut times = alternate(&mut calls).into_iter();
     Times {
         proved: times.next().unwrap_or_default(),
         model: times.next().unwrap_or_default(),
-        singles: times.next(),
+        singles: case.singles.as_ref().and_then(|_| times.next()),
+        one_table: case.one_table.as_ref().and_then(|_| times.next()),
     }
 }
 
