@@ -141,29 +141,34 @@ fn headers() -> Vec<Case> {
     )]
 }
 
+/// Of the node tree also a single page.
 fn tree_checks() -> Vec<Case> {
-    let (left, right) = image(Plan {
-        bare_nodes: 6_000,
-        ..Plan::default()
-    });
-    let nodes = Case::new(
-        "check_nodes",
-        "6000 nodes, level 2",
-        move || u64::from(proved::check_nodes(&left.image).refusal == 0),
-        move || u64::from(model::check_nodes(&right.image).is_ok()),
-    );
+    let mut cases = Vec::new();
+    for (node_level, bare_nodes) in [(0, 15), (2, 6_000)] {
+        let (left, right) = image(Plan {
+            node_level,
+            bare_nodes,
+            ..Plan::default()
+        });
+        cases.push(Case::new(
+            "check_nodes",
+            format!("{bare_nodes} nodes, level {node_level}"),
+            move || u64::from(proved::check_nodes(&left.image).refusal == 0),
+            move || u64::from(model::check_nodes(&right.image).is_ok()),
+        ));
+    }
     let (left, right) = image(Plan {
         spare_blocks: 8_000,
         most_size: 1,
         ..Plan::default()
     });
-    let blocks = Case::new(
+    cases.push(Case::new(
         "check_blocks",
         "8000 blocks, level 2",
         move || u64::from(proved::check_blocks(&left.image).refusal == 0),
         move || u64::from(model::check_blocks(&right.image).is_ok()),
-    );
-    vec![nodes, blocks]
+    ));
+    cases
 }
 
 /// Full trees up to level 3, and one of the highest level with a single path.
