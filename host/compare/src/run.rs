@@ -30,6 +30,9 @@ pub struct Run {
 /// After so many disagreements a run ends.
 const MOST_DISAGREEMENTS: usize = 10;
 
+/// Fewer bytes than this stand ahead of what is lent, so that it begins at any alignment.
+const MOST_AHEAD: usize = 16;
+
 /// So many numbers of a list are shown with a disagreement.
 const MOST_SHOWN: usize = 40;
 
@@ -66,8 +69,9 @@ impl Run {
     }
 
     fn ask_all(&mut self, seed: u64, subject: &Subject) {
-        let bytes = subject.bytes.clone();
         let mut random = Random::new(seed ^ subject.bytes.len() as u64);
+        let ahead = random.below(MOST_AHEAD);
+        let bytes = behind(ahead, &subject.bytes);
         for _ in 0..subject.asks {
             let (question, own_nodes) = question(subject, &mut random);
             let nodes = own_nodes.clone();
@@ -76,7 +80,7 @@ impl Run {
                 nodes: &own_nodes,
             };
             let lent = Lent {
-                bytes: &bytes,
+                bytes: &bytes[ahead..],
                 nodes: &nodes,
             };
             let answers = ask(&question, lent, own, &mut self.buffers);
@@ -163,6 +167,13 @@ impl Run {
         }
         words
     }
+}
+
+/// A copy of the bytes, behind so many others.
+fn behind(ahead: usize, bytes: &[u8]) -> Vec<u8> {
+    let mut all = vec![0; ahead];
+    all.extend_from_slice(bytes);
+    all
 }
 
 fn fault(answers: &Answers, same_buffers: bool, unchanged: bool) -> Option<&'static str> {
