@@ -2,6 +2,7 @@
 
 use crate::answers;
 use crate::buffers::Buffers;
+use crate::checksums::Part;
 use crate::lists::WORDS;
 use rekwonuda_sys as proved;
 
@@ -117,6 +118,8 @@ pub struct Ask {
     pub out_length: usize,
     /// The words of the area that a list of nodes is answered in.
     pub words: usize,
+    /// Of which bytes the checksum is taken.
+    pub part: Part,
 }
 
 impl Ask {
@@ -129,6 +132,7 @@ impl Ask {
             method: 0,
             out_length: 0,
             words: 0,
+            part: Part::WHOLE,
         }
     }
 }
@@ -272,6 +276,6 @@ fn look(ask: &Ask, lent: &[u8], own: &[u8]) -> Answers {
         Call::FindProperty => put_to_both!(find_property as property, lent, own, number as u16),
         Call::Signature => put_to_both!(signature, ask.offset, ask.offset, number),
         Call::Room => put_to_both!(room, number as u32, number as u32),
-        _ => put_to_both!(checksum, lent, own),
+        _ => put_to_both!(checksum, ask.part.of(lent), ask.part.of(own)),
     }
 }

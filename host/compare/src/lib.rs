@@ -4,6 +4,7 @@
 pub mod answers;
 pub mod ask;
 pub mod buffers;
+pub mod checksums;
 pub mod keys;
 pub mod lists;
 pub mod run;

@@ -2,6 +2,7 @@
 
 use crate::ask::{alike_either_way, alike_one_by_one, ask, Answers, Ask, Call, Lent};
 use crate::buffers::{Buffers, GUARD};
+use crate::checksums::Part;
 use crate::lists;
 use crate::subject::{images_for_long_lists, subjects, widest_image, Subject};
 use crate::tally::Tally;
@@ -91,16 +92,19 @@ impl Run {
                 self.report(seed, subject, &question, own.nodes, &answers, fault);
                 return;
             }
-            self.add(&question, own, &answers);
+            self.add(&question, lent, &answers);
         }
     }
 
     /// Counts an answer that both gave: another may say what no page can lead to.
-    fn add(&mut self, question: &Ask, own: Lent, answers: &Answers) {
-        self.tally.add(question.call, answers, own.bytes);
+    fn add(&mut self, question: &Ask, lent: Lent, answers: &Answers) {
+        self.tally.add(question.call, answers, lent.bytes);
         if question.call == Call::FindNodes {
             let area = self.buffers.area();
-            self.tally.add_list(own.nodes.len(), answers, area);
+            self.tally.add_list(lent.nodes.len(), answers, area);
+        }
+        if question.call == Call::Checksum {
+            self.tally.add_checksum(question.part.of(lent.bytes));
         }
     }
 
@@ -207,6 +211,10 @@ fn question(subject: &Subject, random: &mut Random) -> (Ask, Vec<u64>) {
         Call::FindNodes => lists::area(nodes.len(), random),
         _ => 0,
     };
+    let part = match call {
+        Call::Checksum => Part::draw(subject.bytes.len(), random),
+        _ => Part::WHOLE,
+    };
     let ask = Ask {
         call,
         number,
@@ -214,6 +222,7 @@ fn question(subject: &Subject, random: &mut Random) -> (Ask, Vec<u64>) {
         method,
         out_length: out_length(call, number, subject, random),
         words,
+        part,
     };
     (ask, nodes)
 }

@@ -1,6 +1,7 @@
 //! Counts of what the calls answered.
 
 use crate::ask::{Answers, Call};
+use crate::checksums;
 use crate::keys::KeyFault;
 use crate::lists::Met;
 use model::page::Tree;
@@ -23,6 +24,7 @@ pub struct Tally {
     pub keys: BTreeMap<KeyFault, u64>,
     /// What a place says counts once a place, all else once a call.
     pub lists: BTreeMap<Met, u64>,
+    pub checksums: BTreeMap<checksums::Met, u64>,
 }
 
 impl Tally {
@@ -41,6 +43,13 @@ impl Tally {
     pub fn add_list(&mut self, length: usize, answers: &Answers, area: &[u64]) {
         for met in Met::in_call(length, &answers.model, area) {
             *self.lists.entry(met).or_default() += 1;
+        }
+    }
+
+    /// Adds of which bytes a checksum was taken.
+    pub fn add_checksum(&mut self, bytes: &[u8]) {
+        for met in checksums::Met::in_call(bytes) {
+            *self.checksums.entry(met).or_default() += 1;
         }
     }
 
@@ -88,6 +97,12 @@ impl Tally {
         let never = |met: &Met| !self.lists.contains_key(met);
         Met::all().filter(never).collect()
     }
+
+    /// What checksums have to be taken of and never were.
+    pub fn checksums_not_reached(&self) -> Vec<checksums::Met> {
+        let never = |met: &checksums::Met| !self.checksums.contains_key(met);
+        checksums::Met::all().filter(never).collect()
+    }
 }
 
 impl fmt::Display for Tally {
@@ -115,7 +130,8 @@ impl fmt::Display for Tally {
             writeln!(f, "{number:>7} {:>9}", self.refusals(number))?;
         }
         self.write_keys(f)?;
-        self.write_lists(f)
+        self.write_lists(f)?;
+        self.write_checksums(f)
     }
 }
 
@@ -138,6 +154,15 @@ impl Tally {
     fn write_lists(&self, f: &mut fmt::Formatter) -> fmt::Result {
         writeln!(f, "\n{:<39} {:>8}", "lists of nodes", "times")?;
         for (met, count) in &self.lists {
+            let met = met.to_string();
+            writeln!(f, "{met:<39} {count:>8}")?;
+        }
+        Ok(())
+    }
+
+    fn write_checksums(&self, f: &mut fmt::Formatter) -> fmt::Result {
+        writeln!(f, "\n{:<39} {:>8}", "checksums", "calls")?;
+        for (met, count) in &self.checksums {
             let met = met.to_string();
             writeln!(f, "{met:<39} {count:>8}")?;
         }

@@ -1,6 +1,7 @@
 //! 200,000 calls over built, damaged and random bytes: both answer alike, every refusal comes up in
 //! every call that can give it, keys at fault in every sort of page, at every sort of entry, with and
-//! without a fault of the other rule, and in the places of a list of nodes every answer of the lookup.
+//! without a fault of the other rule, in the places of a list of nodes every answer of the lookup, and
+//! checksums of every length under eight, over every rest of an eight and from every alignment.
 
 use compare::run::Run;
 use compare::tally::MOST_REFUSAL;
@@ -33,4 +34,5 @@ fn differential() {
     assert_eq!(run.tally.keys_not_reached(), []);
     assert!(run.tally.keys.keys().all(|fault| fault.can_occur()));
     assert_eq!(run.tally.lists_not_reached(), []);
+    assert_eq!(run.tally.checksums_not_reached(), []);
 }
