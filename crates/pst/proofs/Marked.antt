@@ -7,7 +7,8 @@ use Rattle.refusal.specs.declared.Verdict.{Verdict}
 use Rattle.refusal.specs.declared.Verdict.the-variants.{Accepted, Refused}
 use Rattle.refusal.specs.Number.{number}
 use Rattle.refusal.specs.Order.{demand}
-use Rattle.crc.specs.Checksum.{checksum, checksumFrom, bits, bit}
+use Rattle.remainder.specs.Remainder.{bits, bit}
+use Rattle.crc.specs.Checksum.{checksum, checksumFrom}
 use Rattle.page.specs.Page.{signature}
 use Rattle.block.specs.Block.{room, roomFor, trailer64}
 use Rattle.heap.specs.Items.{itemKind, itemIndex, itemBlock, itemFits, badItem}

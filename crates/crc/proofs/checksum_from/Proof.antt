@@ -1,37 +1,37 @@
-use mathlib.Core.Path.{_≡_, refl}
-use Prim.Native.Nat.{_≤_, _-_}
+use mathlib.Core.Path.{_≡_, sym, ap, ap₂, _∙_}
+use mathlib.Core.List.{List}
+use Prim.Native.Nat.{ℕ, _/_, _*_}
 use native.Mathlib.Omega.{arith}
-use lib.ListN.{length, drop}
-use Rattle.crc.proofs.ChecksumLaws.{checksum-next, checksum-done}
-use Rattle.crc.specs.Checksum.{checksumFrom, bits, bit, checksumTable}
+use lib.ListN.{length, take, drop, take-append-drop}
+use lib.Seq.{length-take-le}
+use Rattle.crc.specs.Checksum.{checksumFrom}
+use Rattle.crc.proofs.ChecksumLaws.{checksum-append, drop-whole}
+use borrow.Author.Needs.{needs}
 use Rattle.crc.proofs.checksum_from.Statement.{statement}
 use Rattle.crc.proofs.checksum_from.Tie as tie
 
-abbrev Inv-loop : tie.InvT-loop
-Inv-loop start bytes t sum₀ i₀ sum i = (i ≤ length bytes) × (checksumFrom sum (drop i bytes) ≡ checksumFrom start bytes)
+cut-length : (s : List ℕ) → length (take (length s / 8 * 8) s) ≡ length s / 8 * 8
+cut-length s = length-take-le (length s / 8 * 8) s (omega arith)
 
-abbrev μ-loop : tie.MeasureT-loop
-μ-loop start bytes t sum₀ i₀ sum i = length bytes - i
-
-with-byte-requires : tie.Need-with-byte-requires Inv-loop μ-loop
-unfolding checksumTable bits bit
-with-byte-requires c κs = refl
-
-loop-again : tie.Need-loop-again Inv-loop μ-loop
-loop-again c =
-    let at-loop = c .before .before .before in
-    (omega arith, cc (checksum-next (at-loop .loop .sum) (at-loop .before .before .before .args .bytes .now) (at-loop .loop .i) (omega arith)))
+returns : tie.Need-returns
+returns c =
+    let a = c .before .before .before .before .before .args in
+    let s = a .bytes .now in
+    let cut = length s / 8 * 8 in
+    c .rest-on .ensures
+    ∙ ap₂ checksumFrom (c .before .before .whole-on .ensures) (drop-whole cut s)
+    ∙ sym (checksum-append (a .start) (take cut s) (drop cut s))
+    ∙ ap (checksumFrom (a .start)) (take-append-drop cut s)
 
 pub checksum-from-spec : {M : Type 1} → statement M
 checksum-from-spec =
     tie.close
     (tie.spec
-    Inv-loop
-    μ-loop
-    (λ c. (omega arith, refl))
-    (λ c. omega arith)
-    with-byte-requires
-    (λ c. omega arith)
-    (λ c. omega arith)
-    loop-again
-    (λ c. cc (checksum-done (c .before .loop .sum) (c .before .before .before .before .args .bytes .now) (c .before .loop .i) (omega arith))))
+    (λ c. search needs)
+    (λ c. sym (cut-length (c .before .before .args .bytes .now)))
+    (λ c κs. omega (arith, cut-length (c .before .before .args .bytes .now)))
+    (λ c. search needs)
+    (λ c. search needs)
+    (λ c. search needs)
+    (λ c κs. search needs)
+    returns)
