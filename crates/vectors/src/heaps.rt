@@ -1,6 +1,5 @@
 // 003, 3.8 to 3.11: the heap of a message store's properties and that of a table, their items and properties.
 use crate::answers;
-use crate::text;
 use heap::Span;
 use libc::STDOUT_FILENO;
 use property::Property;
@@ -21,7 +20,7 @@ fn say_part(part: &[u8]) {
         said::say(b"no bytes\n");
         return;
     }
-    text::say_bytes(part);
+    listed::say_bytes(part);
     said::say(b"\n");
 }
 
@@ -136,7 +135,7 @@ fn table(block: &[u8]) {
 
 pub fn store_heap() {
     let mut block = [0u8; 512];
-    let file = text::load_hex(b"3.8_heap_pc.hex", &mut block);
+    let file = listed::load_hex(b"3.8_heap_pc.hex", &mut block);
     if !file.whole {
         return;
     }
@@ -146,7 +145,7 @@ pub fn store_heap() {
 
 pub fn table_heap() {
     let mut block = [0u8; 512];
-    let file = text::load_hex(b"3.11_tc.hex", &mut block);
+    let file = listed::load_hex(b"3.11_tc.hex", &mut block);
     if !file.whole {
         return;
     }

@@ -4,7 +4,7 @@ mod answers;
 mod heaps;
 mod mini;
 mod pages;
-mod text;
+mod tables;
 
 use libc::STDOUT_FILENO;
 ghost use Prim.Native.Nat.{_≤_, _<_};
@@ -27,12 +27,12 @@ fn header_checksum(header: &[u8], size: usize, place: usize) {
     said::say_decimal(b"3.2 checksum of ", size as u64);
     said::say(b" bytes at 8: ");
     io::print_hex(STDOUT_FILENO, sum as u64, 8);
-    text::say_whether(sum == le::field4(header, place));
+    listed::say_whether(sum == le::field4(header, place));
 }
 
 fn header_checksums() {
     let mut header = [0u8; 564];
-    let file = text::load_hex(b"3.2_header.hex", &mut header);
+    let file = listed::load_hex(b"3.2_header.hex", &mut header);
     if !file.whole {
         return;
     }
@@ -48,13 +48,13 @@ fn say_call(section: &[u8], call: &[u8], method: u8, block: u64, bytes: &[u8]) {
     said::say(b" block ");
     io::print_hex(STDOUT_FILENO, block, 8);
     said::say(b" bytes ");
-    text::say_bytes(bytes);
+    listed::say_bytes(bytes);
     said::say(b": ");
 }
 
 fn say_coded(bytes: &[u8], listed: &[u8]) {
-    text::say_bytes(bytes);
-    text::say_whether(check::same(bytes, listed));
+    listed::say_bytes(bytes);
+    listed::say_whether(check::same(bytes, listed));
 }
 
 fn encode(section: &[u8], method: u8, block: u64, bytes: &mut [u8], listed: &[u8]) {
@@ -69,45 +69,18 @@ fn decode(section: &[u8], method: u8, block: u64, bytes: &mut [u8], listed: &[u8
     say_coded(bytes, listed);
 }
 
-// A word that was read: where it ends in the text, and how many bytes it stands for.
-struct Word {
-    end: usize,
-    size: usize,
-}
-
-fn next_word(letters: &[u8], from: usize, out: &mut [u8]) -> Word
-    requires { ⌜ from ≤ length (now letters) ⌝ }
-    ensures { λ r. ⌜ (r .end ≤ length (now (letters .entry))) × Counts (r .size) (now (out .exit)) ⌝ }
-{
-    let start = text::word_start(letters, from);
-    let end = text::word_end(letters, start);
-    let size = text::unhex(&letters[start..end], out);
-    Word { end, size }
-}
-
-fn wide(byte: u8) -> u64
-    ensures { λ r. ⌜ r < 256 ⌝ }
-{
-    byte as u64
-}
-
-// The number that four bytes make, the highest first, as it is written.
-fn written(bytes: [u8; 4]) -> u64 {
-    (wide(bytes[0]) * 256 + wide(bytes[1])) * 65536 + wide(bytes[2]) * 256 + wide(bytes[3])
-}
-
 // 5.2: a block number, bytes, and what the cyclic steps make of them, both ways.
 fn cyclic_line(letters: &[u8], from: usize) -> usize
     requires { ⌜ from ≤ length (now letters) ⌝ }
     ensures { λ r. ⌜ r ≤ length (now (letters .entry)) ⌝ }
 {
     let mut number = [0u8; 4];
-    let key = next_word(letters, from, &mut number);
+    let key = listed::next_word(letters, from, &mut number);
     let mut plain = [0u8; 64];
-    let first = next_word(letters, key.end, &mut plain);
+    let first = listed::next_word(letters, key.end, &mut plain);
     let mut coded = [0u8; 64];
-    let second = next_word(letters, first.end, &mut coded);
-    let block = written(number);
+    let second = listed::next_word(letters, first.end, &mut coded);
+    let block = listed::written(number);
     let n = first.size;
     let m = second.size;
     let mut work = plain;
@@ -122,11 +95,11 @@ fn permute_line(letters: &[u8], from: usize)
     requires { ⌜ from ≤ length (now letters) ⌝ }
 {
     let mut plain = [0u8; 64];
-    let first = next_word(letters, from, &mut plain);
+    let first = listed::next_word(letters, from, &mut plain);
     let mut by_r = [0u8; 64];
-    let second = next_word(letters, first.end, &mut by_r);
+    let second = listed::next_word(letters, first.end, &mut by_r);
     let mut by_i = [0u8; 64];
-    let third = next_word(letters, second.end, &mut by_i);
+    let third = listed::next_word(letters, second.end, &mut by_i);
     let n = first.size;
     let m = second.size;
     let k = third.size;
@@ -161,6 +134,7 @@ fn main() {
     header_checksums();
     pages::worked_pages();
     coding_vectors();
+    tables::table_lines();
     heaps::store_heap();
     heaps::table_heap();
     mini::real_pages();

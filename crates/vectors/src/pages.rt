@@ -1,7 +1,6 @@
 // 003, 3.2 to 3.7 and 3.13: what the header says, and the checksums, signatures and rooms of the pages
 // and blocks that stand there. Pages of different states of a file are not put together as one tree.
 use crate::answers;
-use crate::text;
 use header::HeaderAnswer;
 use libc::STDOUT_FILENO;
 
@@ -43,7 +42,7 @@ fn checksum_line(section: &[u8], bytes: &[u8], end: usize, place: usize) {
     said::say_decimal(b" checksum of ", end as u64);
     said::say(b" bytes: ");
     io::print_hex(STDOUT_FILENO, sum as u64, 8);
-    text::say_whether(sum == le::field4(bytes, place));
+    listed::say_whether(sum == le::field4(bytes, place));
 }
 
 fn say_signature(section: &[u8], offset: u64, number: u64) -> u16 {
@@ -65,7 +64,7 @@ fn signature_line(section: &[u8], bytes: &[u8], place: usize, offset: u64, numbe
         return;
     }
     let signed = say_signature(section, offset, number);
-    text::say_whether(signed == le::field2(bytes, place));
+    listed::say_whether(signed == le::field2(bytes, place));
 }
 
 fn room_line(section: &[u8], size: u32) {
@@ -77,7 +76,7 @@ fn room_line(section: &[u8], size: u32) {
 
 fn page_lines(section: &[u8], name: &[u8], offset: u64, number: u64) {
     let mut page = [0u8; 512];
-    let file = text::load_hex(name, &mut page);
+    let file = listed::load_hex(name, &mut page);
     if !file.whole {
         return;
     }
@@ -92,7 +91,7 @@ fn block_lines(section: &[u8], name: &[u8], data: u32, offset: u64, number: u64)
     }
     room_line(section, data);
     let mut room = [0u8; 448];
-    let file = text::load_hex(name, &mut room);
+    let file = listed::load_hex(name, &mut room);
     if !file.whole {
         return;
     }

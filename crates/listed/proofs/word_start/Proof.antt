@@ -1,17 +1,17 @@
 use Prim.Native.Nat.{_≤_, _-_}
 use lib.ListN.{length}
 use borrow.Author.Needs.{needs}
-use Rattle.vectors.proofs.text.word_end.Statement.{statement}
-use Rattle.vectors.proofs.text.word_end.Tie as tie
+use Rattle.listed.proofs.word_start.Statement.{statement}
+use Rattle.listed.proofs.word_start.Tie as tie
 
 abbrev Inv-loop : tie.InvT-loop
-Inv-loop text from i₀ i = (from ≤ i) × (i ≤ length text)
+Inv-loop text from i₀ in-comment₀ i in-comment = i ≤ length text
 
 abbrev μ-loop : tie.MeasureT-loop
-μ-loop text from i₀ i = length text - i
+μ-loop text from i₀ in-comment₀ i in-comment = length text - i
 
-pub word-end-spec : {M : Type 1} → statement M
-word-end-spec =
+pub word-start-spec : {M : Type 1} → statement M
+word-start-spec =
     tie.close
     (tie.spec
     Inv-loop

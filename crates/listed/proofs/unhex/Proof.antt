@@ -3,8 +3,8 @@ use mathlib.Core.Path.{_≡_}
 use lib.ListN.{length, length-set, length-take}
 use native.Mathlib.Omega.{arith}
 use borrow.Author.Needs.{needs}
-use Rattle.vectors.proofs.text.unhex.Statement.{statement}
-use Rattle.vectors.proofs.text.unhex.Tie as tie
+use Rattle.listed.proofs.unhex.Statement.{statement}
+use Rattle.listed.proofs.unhex.Tie as tie
 
 abbrev Inv-loop : tie.InvT-loop
 Inv-loop text out₀ n₀ i₀ out n i = (i ≤ length text) × (n ≤ length out) × (length out ≡ length out₀)

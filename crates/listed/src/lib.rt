@@ -1,4 +1,4 @@
-// Files of hexadecimal text, and lines of output.
+// Files of hexadecimal text that list what is expected, and lines of output that say whether it is so.
 use libc::STDOUT_FILENO;
 use said::Loaded;
 ghost use Prim.Native.Nat.{_≤_, _<_};
@@ -100,6 +100,33 @@ pub fn word_end(text: &[u8], from: usize) -> usize
         i += 1;
     }
     i
+}
+
+// A word that was read: where it ends in the text, and how many bytes it stands for.
+pub struct Word {
+    pub end: usize,
+    pub size: usize,
+}
+
+pub fn next_word(letters: &[u8], from: usize, out: &mut [u8]) -> Word
+    requires { ⌜ from ≤ length (now letters) ⌝ }
+    ensures { λ r. ⌜ (r .end ≤ length (now (letters .entry))) × Counts (r .size) (now (out .exit)) ⌝ }
+{
+    let start = word_start(letters, from);
+    let end = word_end(letters, start);
+    let size = unhex(&letters[start..end], out);
+    Word { end, size }
+}
+
+fn wide(byte: u8) -> u64
+    ensures { λ r. ⌜ r < 256 ⌝ }
+{
+    byte as u64
+}
+
+// The number that four bytes make, the highest first, as it is written.
+pub fn written(bytes: [u8; 4]) -> u64 {
+    (wide(bytes[0]) * 256 + wide(bytes[1])) * 65536 + wide(bytes[2]) * 256 + wide(bytes[3])
 }
 
 fn say_byte(byte: u8) {
