@@ -4,11 +4,15 @@ use refusal::Refusal;
 use refusal::Verdict;
 use tree::FoundBlock;
 use tree::Listed;
+use tree::Way;
 ghost use mathlib.Core.Path.{_≡_};
 ghost use Prim.Native.Nat.{_+_, _≤_};
 ghost use lib.ListN.{length};
 ghost use Rattle.refusal.specs.Order.{inOrder};
 ghost use Rattle.header.specs.Header.{headerFits};
+ghost use Rattle.page.specs.Layout.{bbt, compared};
+ghost use Rattle.tree.specs.Lookup.{lookup};
+ghost use Rattle.tree.specs.Ways.{atEnd, FromRoot};
 ghost use Rattle.block.specs.Sound.{FairTrailer};
 ghost use Rattle.laws.specs.Front.{fronted};
 ghost use Rattle.block.specs.Block.{trailer64, roomFor, room as roomOf, placeFits, trailerFits, sumFits, trailerRules, blockFits, testedBy, checkedBlock, sizeIn, testOf, internal, plain, blockBytes, readOf, filledOf};
@@ -163,6 +167,14 @@ pub fn check_block_in(image: &[u8], block: u64) -> Checked
     ensures { λ r. ⌜ r ≡ checkedBlock (now (image .entry)) block ⌝ }
 {
     test_found(image, tree::find_block_in(image, block))
+}
+
+// The same at the end of the block's way.
+pub fn check_block_at(image: &[u8], way: Way, block: u64) -> Checked
+    requires { ⌜ FromRoot bbt (now image) way × (atEnd bbt (now image) way (compared bbt block) ≡ lookup bbt (now image) block) ⌝ }
+    ensures { λ r. ⌜ r ≡ checkedBlock (now (image .entry)) block ⌝ }
+{
+    test_found(image, tree::block_at(image, way, block))
 }
 
 pub fn test_block(image: &[u8], block: u64) -> Sized

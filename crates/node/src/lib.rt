@@ -6,6 +6,7 @@ use refusal::Verdict;
 use tree::FoundBlock;
 use tree::FoundNode;
 use tree::Listed;
+use tree::Way;
 ghost use mathlib.Core.Path.{_≡_};
 ghost use mathlib.Core.Bool.{true, false};
 ghost use Prim.Native.Nat.{_+_, _*_, _≤_, _<_};
@@ -14,6 +15,9 @@ ghost use Rattle.refusal.specs.Order.{_at_, _needing_};
 ghost use Rattle.keys.specs.Search.{joined};
 ghost use Rattle.header.specs.Header.{headerFits};
 ghost use Rattle.laws.specs.Front.{fronted};
+ghost use Rattle.page.specs.Layout.{bbt, compared};
+ghost use Rattle.tree.specs.Lookup.{lookup};
+ghost use Rattle.tree.specs.Ways.{atEnd, FromRoot};
 ghost use Rattle.block.specs.Block.{checkedBlock, blockBytes, internal};
 ghost use Rattle.node.specs.Content.{numberAt, numbersFrom, noneInternal, shapeFits, kidsOf, treeContent, blockContent, dataOf, nodeContent, answerTo, filledBy};
 ghost use Rattle.node.specs.Content.{bytes as bytesOf};
@@ -85,15 +89,20 @@ fn refused_measure(checked: Checked) -> Measured
     }
 }
 
-// The children of a data tree, each looked up and tested in turn.
+// The children of a data tree, each looked up and tested in turn. The root page is tested once; the way
+// to a leaf page is taken again for the children behind that are listed there too.
 fn measure(image: &[u8], root: &[u8], count: usize) -> Measured
     requires { ⌜ (8 + 8 * count ≤ length (now root)) × (count ≤ 1021) × (headerFits (now image) ≡ Verdict.Accepted) ⌝ }
     ensures { λ r. ⌜ r ≡ measuredIn (kidsOf (now (image .entry)) (numbersFrom (now (root .entry)) 0 count)) ⌝ }
 {
+    let start = tree::check_block_start(image);
+    let mut way = Way::Nowhere(0);
     let mut sum: u64 = 0;
     let mut i: usize = 0;
     while i < count {
-        let checked = block::check_block_in(image, number_at(root, i));
+        let number = number_at(root, i);
+        way = tree::way_to_block(image, start, way, number);
+        let checked = block::check_block_at(image, way, number);
         let Checked::Block(b) = checked else {
             return refused_measure(checked);
         };
@@ -103,10 +112,10 @@ fn measure(image: &[u8], root: &[u8], count: usize) -> Measured
     Measured::Sum(sum)
 }
 
-// The block that is listed under a number whose tests have passed. The last two arms are never
+// The block at the end of the way of a number whose tests have passed. The last two arms are never
 // reached: a second lookup of the number finds the same block.
-fn listed_at(image: &[u8], number: u64) -> Listed
-    requires { ⌜ IsListed (now image) number × (headerFits (now image) ≡ Verdict.Accepted) ⌝ }
+fn listed_at(image: &[u8], way: Way, number: u64) -> Listed
+    requires { ⌜ IsListed (now image) number × FromRoot bbt (now image) way × (atEnd bbt (now image) way (compared bbt number) ≡ lookup bbt (now image) number) ⌝ }
     ensures { λ r. ⌜ checkedBlock (now (image .entry)) number ≡ Checked.Block r ⌝ }
 {
     let nothing = Listed {
@@ -115,7 +124,7 @@ fn listed_at(image: &[u8], number: u64) -> Listed
         size: 0,
         references: 0,
     };
-    let found = tree::find_block_in(image, number);
+    let found = tree::block_at(image, way, number);
     match found {
         FoundBlock::Found(b, _) => b,
         FoundBlock::Absent(_) => nothing,
@@ -129,10 +138,14 @@ fn gather(image: &[u8], root: &[u8], count: usize, out: &mut [u8])
     requires { ⌜ length (joined (bytesAt (now image)) (numbersFrom (now root) 0 count)) ≤ length (now out) ⌝ }
     ensures { λ _. ⌜ now (out .exit) ≡ fronted (joined (bytesAt (now (image .entry))) (numbersFrom (now (root .entry)) 0 count)) (now (out .entry)) ⌝ }
 {
+    let start = tree::check_block_start(image);
+    let mut way = Way::Nowhere(0);
     let mut n: usize = 0;
     let mut i: usize = 0;
     while i < count {
-        let b = listed_at(image, number_at(root, i));
+        let child = number_at(root, i);
+        way = tree::way_to_block(image, start, way, child);
+        let b = listed_at(image, way, child);
         block::block_into(image, b, &mut out[n..]);
         n += b.size as usize;
         i += 1;

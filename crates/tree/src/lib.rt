@@ -556,6 +556,33 @@ pub fn find_block_in(image: &[u8], block: u64) -> FoundBlock
     as_block(find_in(image, page::blocks(), block))
 }
 
+// For a call that looks up many blocks in an image whose header is accepted: what each lookup tests
+// before it goes down.
+pub fn check_block_start(image: &[u8]) -> Verdict
+    requires { ⌜ headerFits (now image) ≡ Verdict.Accepted ⌝ }
+    ensures { λ r. ⌜ r ≡ startFits bbt (now (image .entry)) ⌝ }
+{
+    check_root(image, page::blocks())
+}
+
+// The way of a block, where `start` is what came of that; the way of a block before it is taken again
+// where it leads to this one.
+pub fn way_to_block(image: &[u8], start: Verdict, last: Way, block: u64) -> Way
+    requires { ⌜ (start ≡ startFits bbt (now image)) × FromRoot bbt (now image) last ⌝ }
+    ensures { λ r. ⌜ (atEnd bbt (now (image .entry)) r (compared bbt block) ≡ lookup bbt (now (image .entry)) block) × FromRoot bbt (now (image .entry)) r ⌝ }
+{
+    way_to(image, page::blocks(), start, last, block)
+}
+
+// The block at the end of its way.
+pub fn block_at(image: &[u8], way: Way, block: u64) -> FoundBlock
+    requires { ⌜ FromRoot bbt (now image) way × (atEnd bbt (now image) way (compared bbt block) ≡ lookup bbt (now image) block) ⌝ }
+    ensures { λ r. ⌜ r ≡ blockOf (now (image .entry)) block ⌝ }
+{
+    let l = page::blocks();
+    as_block(end_of(image, l, way, page::compared(l, block)))
+}
+
 pub fn next_block(image: &[u8], from: u64) -> FoundBlock
     ensures { λ r. ⌜ r ≡ nextBlockOf (now (image .entry)) from ⌝ }
 {
