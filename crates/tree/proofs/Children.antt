@@ -146,6 +146,10 @@ module _ (L : Layout) (image : List ℕ) (l : ℕ) (p : Link) where
   unfolding kidsFrom
   more i c e = more-from L g l (p .range .to) i c e
 
+  pub no-more : (i : ℕ) → countOf L g ≤ i → nextOf (kidsFrom L image l p i) ≡ NoMore
+  unfolding kidsFrom
+  no-more i h = sym (next-none L g l (p .range .to) i h)
+
   pub all-kids : kidsFrom L image l p 0 ≡ children (pageTree L image) l p
   unfolding kidsFrom children
   all-kids = rw (entries-are L g) (children-all (keyIn L) (shape L (levelOf L g)) (keyed L g) (countOf L g) g (p .range .to) (linkOf L l))

@@ -21,10 +21,10 @@ use Rattle.header.specs.Header.{headerRules, headerFits}
 use Rattle.page.specs.declared.Layout.{Layout}
 use Rattle.page.specs.declared.Level.the-variants.{Exactly}
 use Rattle.page.specs.declared.Link.{Link}
-use Rattle.page.specs.Layout.{shape, FairLayout}
+use Rattle.page.specs.Layout.{shape}
 use Rattle.page.specs.Page.{page, countOf, levelOf, keyIn, offsetFits, levelFits, mayBeEmpty, countsFit, pageFits}
 use Rattle.header.proofs.HeaderLaws.{header-rules}
-use Rattle.page.proofs.PageLaws.{counts-of, few, level-wanted, child-filled, page-rules, all-of-page, page-offset, page-counts, page-ends}
+use Rattle.page.proofs.PageLaws.{counts-of, level-wanted, child-filled, page-rules, all-of-page, page-offset, page-counts, page-ends}
 use Rattle.tree.specs.declared.Next.the-variants.{Here, NoMore}
 use Rattle.tree.specs.Tree.{root, rootLevel, linkOf, pageTree, treeRules, treeFits}
 use Rattle.tree.specs.Answers.{kidsFrom, nextOf}
@@ -41,9 +41,6 @@ module _ (L : Layout) (image : List ℕ) (p : Link) (ok : pageFits L image p ≡
 
   pub accepted-counts : countsFit L p (page image (p .offset)) ≡ true
   accepted-counts = page-counts L image p (all-of-page L image p ok)
-
-  pub accepted-few : FairLayout L → countOf L (page image (p .offset)) ≤ 255
-  accepted-few fair = few L p (page image (p .offset)) fair accepted-counts
 
   -- it has the level that its reference asks for
   pub accepted-level : (l : ℕ) → p .level ≡ Exactly l → levelOf L (page image (p .offset)) ≡ l

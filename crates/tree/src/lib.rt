@@ -138,6 +138,43 @@ fn child_at(image: &[u8], l: Layout, level: usize, p: Link, i: usize) -> Next
     next_link(l, &image[at..at + 512], level, p, i)
 }
 
+// How many entries an accepted page has.
+fn count_for(image: &[u8], l: Layout, p: Link) -> usize
+    requires { ⌜ FairLayout l × (pageFits l (now image) p ≡ Verdict.Accepted) ⌝ }
+    ensures { λ r. ⌜ (r ≡ countOf l (page (now (image .entry)) (p .offset))) × (r < 256) ⌝ }
+{
+    let at = p.offset as usize;
+    page::count_of(l, &image[at..at + 512])
+}
+
+// The shape of its entries.
+fn entry_for(image: &[u8], l: Layout, p: Link) -> Shape
+    requires { ⌜ FairLayout l × (pageFits l (now image) p ≡ Verdict.Accepted) ⌝ }
+    ensures { λ r. ⌜ r ≡ shape l (levelOf l (page (now (image .entry)) (p .offset))) ⌝ }
+{
+    let at = p.offset as usize;
+    page::shape_in(l, &image[at..at + 512])
+}
+
+// The child of the i-th of its entries, of which it has so many of this shape.
+fn link_for(
+    image: &[u8],
+    l: Layout,
+    entry: Shape,
+    count: usize,
+    level: usize,
+    p: Link,
+    i: usize,
+) -> Link
+    requires { ⌜ FairLayout l × (pageFits l (now image) p ≡ Verdict.Accepted) × (entry ≡ shape l (levelOf l (page (now image) (p .offset)))) × (count ≡ countOf l (page (now image) (p .offset))) × (i < count) ⌝ }
+    ensures { λ r. ⌜ nextOf (kidsFrom l (now (image .entry)) level p i) ≡ Next.Here r ⌝ }
+{
+    let at = p.offset as usize;
+    let range = p.range;
+    let to = range.to;
+    link_at(l, &image[at..at + 512], entry, count, level, to, i)
+}
+
 // "Every page on this path gets the full page check": all pages that are read pass here, whatever the call.
 fn verdict_on(image: &[u8], l: Layout, p: Link) -> Verdict
     requires { ⌜ FairLayout l ⌝ }
@@ -158,23 +195,26 @@ fn check_under(image: &[u8], l: Layout, level: usize, p: Link) -> Verdict
     if level == 0 {
         return Verdict::Accepted;
     }
-    check_children(image, l, level - 1, p, 0)
+    check_children(image, l, level - 1, p)
 }
 
-// The check of an accepted page's children, from the i-th on, each with everything under it.
-fn check_children(image: &[u8], l: Layout, level: usize, p: Link, i: usize) -> Verdict
-    requires { ⌜ FairLayout l × (pageFits l (now image) p ≡ Verdict.Accepted) × (i ≤ 255) ⌝ }
-    ensures { λ r. ⌜ r ≡ each (pageTree l (now (image .entry))) level (kidsFrom l (now (image .entry)) level p i) ⌝ }
+// The check of an accepted page's children, each with everything under it.
+fn check_children(image: &[u8], l: Layout, level: usize, p: Link) -> Verdict
+    requires { ⌜ FairLayout l × (pageFits l (now image) p ≡ Verdict.Accepted) ⌝ }
+    ensures { λ r. ⌜ r ≡ each (pageTree l (now (image .entry))) level (kidsFrom l (now (image .entry)) level p 0) ⌝ }
 {
-    let next = child_at(image, l, level, p, i);
-    let Next::Here(child) = next else {
-        return Verdict::Accepted;
-    };
-    let verdict = check_under(image, l, level, child);
-    let Verdict::Accepted = verdict else {
-        return verdict;
-    };
-    check_children(image, l, level, p, i + 1)
+    let count = count_for(image, l, p);
+    let entry = entry_for(image, l, p);
+    let mut i = 0;
+    while i < count {
+        let child = link_for(image, l, entry, count, level, p, i);
+        let verdict = check_under(image, l, level, child);
+        let Verdict::Accepted = verdict else {
+            return verdict;
+        };
+        i += 1;
+    }
+    Verdict::Accepted
 }
 
 // The chosen child of a page whose counts fit: that of the last entry whose key is at most the key sought.

@@ -1,10 +1,12 @@
-use Prim.Native.Nat.{_+_, _*_, _-_}
-use mathlib.Core.Path.{sym, _∙_}
+use Prim.Native.Nat.{_+_, _*_, _-_, _≤_}
+use mathlib.Core.Path.{_≡_, refl, sym, _∙_}
 use native.Mathlib.Omega.{arith}
 use borrow.Author.Needs.{needs}
+use Rattle.search.specs.SearchTree.{each}
+use Rattle.tree.specs.Tree.{pageTree}
 use Rattle.tree.specs.Answers.{kidsFrom}
-use Rattle.tree.proofs.Walk.{accepted-few, walk-none, walk-refused, walk-on, page-refused, page-leaf, page-index}
-use Rattle.tree.proofs.Children.{more}
+use Rattle.tree.proofs.Walk.{walk-none, walk-refused, walk-on, page-refused, page-leaf, page-index}
+use Rattle.tree.proofs.Children.{more, no-more}
 use Prim.Native.Nat.{ℕ, _<_}
 use borrow.Fn.Kinds.{In}
 use borrow.Fn.PlainCycle.{Measures, is, falls, and}
@@ -14,16 +16,18 @@ use Rattle.tree.proofs.+check_children+check_under.Lts-check_children a
 use Rattle.tree.proofs.check_under.Reads as check-under
 use Rattle.tree.proofs.check_under.Kinds as check-under-kinds
 use Rattle.tree.proofs.+check_children+check_under.Lts-check_under as check-under-lts
+use Rattle.tree.proofs.count_for.Reads as count-for-reads
+use Rattle.tree.proofs.entry_for.Reads as entry-for-reads
+use Rattle.tree.proofs.link_for.Reads as link-for-reads
 use Rattle.tree.proofs.verdict_on.Reads as verdict-on-reads
-use Rattle.tree.proofs.child_at.Reads as child-at-reads
 use Rattle.tree.proofs.+check_children+check_under.{statement}
 use Rattle.tree.proofs.+check_children+check_under.Tie.{close}
 
 abbrev μ-check-children : Measures 1 check-children-kinds.ps ℕ
-μ-check-children κs a = 512 * a .1 .1 .0 + 1 + (256 - a .1 .1 .1 .1 .0)
+μ-check-children κs a = 2 * a .1 .1 .0 + 1
 
 abbrev μ-check-under : Measures 1 check-under-kinds.ps ℕ
-μ-check-under κs a = 512 * a .1 .1 .0
+μ-check-under κs a = 2 * a .1 .1 .0
 
 abbrev check-children-at : ℕ → In 1 check-children-kinds.ps
 check-children-at t =
@@ -49,40 +53,57 @@ abbrev check-under-below : ℕ → In 1 check-under-kinds.ps
 check-under-below t =
     and 1 check-under-kinds.ps (falls 1 check-under-kinds.ps _<_ μ-check-under t) check-under.Pre
 
+abbrev check-children-Inv-loop : check-children-lts.InvT-loop
+check-children-Inv-loop image l level p count entry i₀ i =
+    (i ≤ count) × (each (pageTree l image) level (kidsFrom l image level p i) ≡ each (pageTree l image) level (kidsFrom l image level p 0))
+
+abbrev check-children-μ-loop : check-children-lts.MeasureT-loop
+check-children-μ-loop image l level p count entry i₀ i = count - i
+
 pub +check-children+check-under-spec : {M : Type 1} → statement M
 +check-children+check-under-spec =
     close μ-check-children μ-check-under (λ t. check-children-lts.spec (
-      child-at-reads.Asked,
-      child-at-reads.Learnt,
+      count-for-reads.Asked,
+      count-for-reads.Learnt,
+      entry-for-reads.Asked,
+      entry-for-reads.Learnt,
+      link-for-reads.Asked,
+      link-for-reads.Learnt,
       check-under-below t,
       check-under.Post,
-      check-children-below t,
-      check-children.Post,
     )
     (check-children-at t)
     check-children.Post
+    check-children-Inv-loop
+    check-children-μ-loop
     (λ c κs. search needs)
-    (λ c. search needs)
-    (λ c. search needs)
-    (λ c.
-    let a = c .before .before .before .before .args in
-    walk-none (a .l) (a .image .now) (a .level) (kidsFrom (a .l) (a .image .now) (a .level) (a .p) (a .i)) (sym (c .before .before .child-at .ensures) ∙ c .enum-told .given .1))
-    (λ c κs. (omega (arith, c .before .before .before .before .before .pre .0), c .before .before .before .before .before .pre .1 .0))
-    (λ c. search needs)
-    (λ c. search needs)
-    (λ c.
-    let a = c .before .before .before .before .before .before .before .before .args in
-    walk-refused (a .l) (a .image .now) (a .level) _ _ _ _ (more (a .l) (a .image .now) (a .level) (a .p) (a .i) (c .before .before .before .before .next .given .0 .0) (sym (c .before .before .before .before .before .before .child-at .ensures) ∙ c .before .before .before .before .next .given .1) .1) (c .before .before .check-under .ensures) _ (c .enum-told3 .given .1))
-    (λ c. omega arith)
+    (λ c κs. search needs)
+    (λ c. (omega arith, refl))
     (λ c κs.
-    let a = c .before .before .before .before .before .before .before .before .args in
-    let pre = c .before .before .before .before .before .before .before .before .pre in
-    let below = more (a .l) (a .image .now) (a .level) (a .p) (a .i) (c .before .before .before .before .next .given .0 .0) (sym (c .before .before .before .before .before .before .child-at .ensures) ∙ c .before .before .before .before .next .given .1) .0 in
-    let few = accepted-few (a .l) (a .image .now) (a .p) (pre .1 .1) (pre .1 .0) in
-    (omega (arith, pre .0, below, few), (pre .1 .0, pre .1 .1, omega (arith, below, few))))
+    let pre = c .before .before .before .before .before .pre in
+    (pre .1 .0, pre .1 .1, c .before .before .entry-for .ensures, c .before .before .before .count-for .ensures .0, omega arith))
+    (λ c κs.
+    let pre = c .before .before .before .before .before .before .pre in
+    (omega (arith, pre .0), pre .1 .0))
+    (λ c. search needs)
+    (λ c. search needs)
     (λ c.
     let a = c .before .before .before .before .before .before .before .before .before .args in
-    c .check-children .ensures ∙ walk-on (a .l) (a .image .now) (a .level) _ _ _ _ (more (a .l) (a .image .now) (a .level) (a .p) (a .i) (c .before .before .before .before .before .next .given .0 .0) (sym (c .before .before .before .before .before .before .before .child-at .ensures) ∙ c .before .before .before .before .before .next .given .1) .1) (c .before .before .before .check-under .ensures) (c .before .enum-told2 .given .1)))
+    let l = c .before .before .before .before .before .loop in
+    let child = c .before .before .before .link-for in
+    walk-refused (a .l) (a .image .now) (a .level) _ _ _ _ (more (a .l) (a .image .now) (a .level) (a .p) (l .i) (child .result) (child .ensures) .1) (c .before .before .check-under .ensures) _ (c .enum-told2 .given .1) ∙ l .inv .1)
+    (λ c. omega arith)
+    (λ c. omega arith)
+    (λ c.
+    let a = c .before .before .before .before .before .before .before .before .before .args in
+    let l = c .before .before .before .before .before .loop in
+    let child = c .before .before .before .link-for in
+    (omega arith, walk-on (a .l) (a .image .now) (a .level) _ _ _ _ (more (a .l) (a .image .now) (a .level) (a .p) (l .i) (child .result) (child .ensures) .1) (c .before .before .check-under .ensures) (c .enum-told .given .1) ∙ l .inv .1))
+    (λ c.
+    let a = c .before .before .before .before .before .args in
+    let l = c .before .loop in
+    let most = c .before .before .before .count-for .ensures .0 in
+    walk-none (a .l) (a .image .now) (a .level) (kidsFrom (a .l) (a .image .now) (a .level) (a .p) (l .i)) (no-more (a .l) (a .image .now) (a .level) (a .p) (l .i) (omega (arith, most))) ∙ l .inv .1))
     λ t. check-under-lts.spec
     (verdict-on-reads.Asked, verdict-on-reads.Learnt, check-children-below t, check-children.Post)
     (check-under-at t)
@@ -99,7 +120,7 @@ pub +check-children+check-under-spec : {M : Type 1} → statement M
     (λ c. omega arith)
     (λ c κs.
     let pre = c .before .before .before .before .before .pre in
-    (omega (arith, pre .0), (pre .1, sym (c .before .before .before .verdict-on .ensures) ∙ c .before .enum-told .given .1, omega arith)))
+    (omega (arith, pre .0), (pre .1, sym (c .before .before .before .verdict-on .ensures) ∙ c .before .enum-told .given .1)))
     (λ c.
     let a = c .before .before .before .before .before .before .args in
     c .check-children .ensures ∙ page-index (a .l) (a .image .now) (a .level) (a .p) _ (c .before .before .before .before .verdict-on .ensures) (c .before .if1 .left) (c .before .before .enum-told .given .1))
