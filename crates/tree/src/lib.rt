@@ -208,10 +208,17 @@ fn check_children(image: &[u8], l: Layout, level: usize, p: Link) -> Verdict
     let mut i = 0;
     while i < count {
         let child = link_for(image, l, entry, count, level, p, i);
-        let verdict = check_under(image, l, level, child);
-        let Verdict::Accepted = verdict else {
-            return verdict;
-        };
+        if level == 0 {
+            let verdict = verdict_on(image, l, child);
+            let Verdict::Accepted = verdict else {
+                return verdict;
+            };
+        } else {
+            let verdict = check_under(image, l, level, child);
+            let Verdict::Accepted = verdict else {
+                return verdict;
+            };
+        }
         i += 1;
     }
     Verdict::Accepted

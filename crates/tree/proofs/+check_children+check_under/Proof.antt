@@ -1,11 +1,12 @@
 use Prim.Native.Nat.{_+_, _*_, _-_, _≤_}
 use mathlib.Core.Path.{_≡_, refl, sym, _∙_}
+use mathlib.Core.Logic.{⊎-elim}
 use native.Mathlib.Omega.{arith}
 use borrow.Author.Needs.{needs}
 use Rattle.search.specs.SearchTree.{each}
 use Rattle.tree.specs.Tree.{pageTree}
 use Rattle.tree.specs.Answers.{kidsFrom}
-use Rattle.tree.proofs.Walk.{walk-none, walk-refused, walk-on, page-refused, page-leaf, page-index}
+use Rattle.tree.proofs.Walk.{walk-none, walk-refused, walk-on, page-refused, page-alone, page-leaf, page-index}
 use Rattle.tree.proofs.Children.{more, no-more}
 use Prim.Native.Nat.{ℕ, _<_}
 use borrow.Fn.Kinds.{In}
@@ -69,6 +70,8 @@ pub +check-children+check-under-spec : {M : Type 1} → statement M
       entry-for-reads.Learnt,
       link-for-reads.Asked,
       link-for-reads.Learnt,
+      verdict-on-reads.Asked,
+      verdict-on-reads.Learnt,
       check-under-below t,
       check-under.Post,
     )
@@ -82,23 +85,38 @@ pub +check-children+check-under-spec : {M : Type 1} → statement M
     (λ c κs.
     let pre = c .before .before .before .before .before .pre in
     (pre .1 .0, pre .1 .1, c .before .before .entry-for .ensures, c .before .before .before .count-for .ensures .0, omega arith))
+    (λ c κs. c .before .before .before .before .before .before .before .pre .1 .0)
+    (λ c. search needs)
+    (λ c. search needs)
+    (λ c.
+    let a = c .before .before .before .before .before .before .before .before .before .before .args in
+    let l = c .before .before .before .before .before .before .loop in
+    let child = c .before .before .before .before .link-for in
+    walk-refused (a .l) (a .image .now) (a .level) _ _ _ _ (more (a .l) (a .image .now) (a .level) (a .p) (l .i) (child .result) (child .ensures) .1) (page-alone (a .l) (a .image .now) (a .level) (child .result) _ (c .before .before .verdict-on .ensures) (c .before .before .before .if1 .taken)) _ (c .enum-told2 .given .1) ∙ l .inv .1)
     (λ c κs.
-    let pre = c .before .before .before .before .before .before .pre in
+    let pre = c .before .before .before .before .before .before .before .pre in
     (omega (arith, pre .0), pre .1 .0))
     (λ c. search needs)
     (λ c. search needs)
     (λ c.
-    let a = c .before .before .before .before .before .before .before .before .before .args in
-    let l = c .before .before .before .before .before .loop in
-    let child = c .before .before .before .link-for in
-    walk-refused (a .l) (a .image .now) (a .level) _ _ _ _ (more (a .l) (a .image .now) (a .level) (a .p) (l .i) (child .result) (child .ensures) .1) (c .before .before .check-under .ensures) _ (c .enum-told2 .given .1) ∙ l .inv .1)
+    let a = c .before .before .before .before .before .before .before .before .before .before .args in
+    let l = c .before .before .before .before .before .before .loop in
+    let child = c .before .before .before .before .link-for in
+    walk-refused (a .l) (a .image .now) (a .level) _ _ _ _ (more (a .l) (a .image .now) (a .level) (a .p) (l .i) (child .result) (child .ensures) .1) (c .before .before .check-under .ensures) _ (c .enum-told4 .given .1) ∙ l .inv .1)
     (λ c. omega arith)
     (λ c. omega arith)
     (λ c.
-    let a = c .before .before .before .before .before .before .before .before .before .args in
-    let l = c .before .before .before .before .before .loop in
-    let child = c .before .before .before .link-for in
-    (omega arith, walk-on (a .l) (a .image .now) (a .level) _ _ _ _ (more (a .l) (a .image .now) (a .level) (a .p) (l .i) (child .result) (child .ensures) .1) (c .before .before .check-under .ensures) (c .enum-told .given .1) ∙ l .inv .1))
+    let a = c .before .before .before .before .before .before .before .args in
+    let l = c .before .before .before .loop in
+    let child = c .before .link-for in
+    let kids = more (a .l) (a .image .now) (a .level) (a .p) (l .i) (child .result) (child .ensures) .1 in (
+      omega arith,
+      ⊎-elim
+          (λ w. walk-on (a .l) (a .image .now) (a .level) _ _ _ _ kids (page-alone (a .l) (a .image .now) (a .level) (child .result) _ (w .1 .ensures) (w .0 .taken)) (w .3 .given .1))
+          (λ w. walk-on (a .l) (a .image .now) (a .level) _ _ _ _ kids (w .1 .ensures) (w .3 .given .1))
+          (c .if1 .came)
+          ∙ l .inv .1,
+    ))
     (λ c.
     let a = c .before .before .before .before .before .args in
     let l = c .before .loop in
