@@ -10,3 +10,4 @@ pub mod ThirdDemand
 pub mod FirstRequest
 pub mod SecondRequest
 pub mod ThirdRequest
+pub mod FourthRequest

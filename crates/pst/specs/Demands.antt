@@ -1,8 +1,8 @@
 -- The user's three demands, of the outcomes of the public calls alone; and what the requests of 02 add to them, of those outcomes and of pages. Assumes nothing: these are definitions.
 --
 -- The contract of a call says: what the answer means is the outcome that pst/specs/Outcomes names, and each buffer at exit is the one named there. What holds of every
--- outcome so holds of every call. Proved in pst/proofs/FirstDemand, SecondDemand, ThirdDemand, FirstRequest, SecondRequest and ThirdRequest.
-use Prim.Native.Nat.{ℕ, _+_, _*_, _/_, _≤_, _<_}
+-- outcome so holds of every call. Proved in pst/proofs/FirstDemand, SecondDemand, ThirdDemand, FirstRequest, SecondRequest, ThirdRequest and FourthRequest.
+use Prim.Native.Nat.{ℕ, _+_, _*_, _/_, _%_, _^_, _≤_, _<_}
 use mathlib.Core.Path.{_≡_}
 use mathlib.Core.Bool.{true, false}
 use mathlib.Core.Logic.{_↔_, _⊎_}
@@ -10,7 +10,8 @@ use mathlib.Core.Option.{Option}
 use mathlib.Core.List.{List, [], _∷_, _++_, map}
 use lib.Dec.{leb}
 use lib.ListN.{length, getD, drop}
-use Rattle.le.specs.Bytes.{part, Bytes}
+use lib.Bits.{bitXor}
+use Rattle.le.specs.Bytes.{littleEndian, part, Bytes}
 use Rattle.refusal.specs.declared.Refusal.{Refusal}
 use Rattle.refusal.specs.declared.Fault.the-variants.{Encoding, KeyRange}
 use Rattle.refusal.specs.declared.Verdict.the-variants.{Refused}
@@ -21,6 +22,7 @@ use Rattle.keys.specs.Records.{cleared}
 use Rattle.keys.specs.Search.{withKey, fromKey}
 use Rattle.search.specs.Answer.{Answer, found, answer}
 use Rattle.search.specs.Answer as search
+use Rattle.remainder.specs.Remainder.{bits, tableEntry}
 use Rattle.coding.specs.Coding.{cyclic, word}
 use Rattle.coding.specs.Table.{R, I}
 use Rattle.header.specs.declared.HeaderAnswer.the-variants.{Says}
@@ -58,7 +60,7 @@ use Rattle.property.specs.Context.{properties, Context, contextRules}
 use Rattle.property.specs.Lookup.{propertyFrom, propertyRules}
 use Rattle.property.specs.Scan.{PropertiesSound, idOf, propertyRecords}
 use Rattle.pst.specs.Meaning.{Meaning, answered, absent, refused, refuses, refusalMeans, verdictMeans, headerMeans, nodeMeans, blockMeans, sizedMeans, dataMeans, spanMeans, propertyMeans}
-use Rattle.pst.specs.Outcomes.{headerOutcome, nodesOutcome, blocksOutcome, nodeOutcome, listOutcome, listArea, blockOutcome, nextNodeOutcome, nextBlockOutcome, testOutcome, readOutcome, readBuffer, dataOutcome, dataBuffer, codeOutcome, encodeBuffer, decodeBuffer, heapOutcome, testItemOutcome, itemOutcome, spanOutcome, propertyOutcome}
+use Rattle.pst.specs.Outcomes.{headerOutcome, nodesOutcome, blocksOutcome, nodeOutcome, listOutcome, listArea, blockOutcome, nextNodeOutcome, nextBlockOutcome, testOutcome, readOutcome, readBuffer, dataOutcome, dataBuffer, codeOutcome, encodeBuffer, decodeBuffer, heapOutcome, testItemOutcome, itemOutcome, spanOutcome, propertyOutcome, checksumOutcome}
 
 -- Demand 1 of one call: its answers, by what they mean; the rules that it tries, in their order; its outcome
 pub record Told {A : Type 0} (means : A → Meaning) (rules : List Rule) (outcome : Meaning) : Type 0 where
@@ -242,6 +244,19 @@ pub record ThirdRequest : Type 0 where
   -- where the node tree is accepted no place tells a refusal
   pub never-refused : (image nodes area : List ℕ) (i : ℕ) → nodesOutcome image ≡ answered [] → listOutcome nodes area ≡ answered [] → i < length nodes
       → getD (listArea image nodes area) (9 * i) 0 ≡ 0
+
+-- 4/13, "Do it eight bytes at a time with the tables of section 5.3"
+pub record FourthRequest : Type 0 where
+  -- "Answers stay as they are for every length, also 0 to 7": each byte is added to the sum, which starts at 0, and eight bits fall out, one by one
+  pub empty : checksumOutcome [] ≡ 0
+  pub bit-by-bit : (bytes : List ℕ) (b : ℕ) → checksumOutcome (bytes ++ (b ∷ [])) ≡ bits 8 (bitXor (checksumOutcome bytes) b)
+  -- any n bytes behind others, taken at once as the number that they make, are the same bytes one by one
+  pub at-once : (bytes more : List ℕ) → Bytes more → checksumOutcome (bytes ++ more) ≡ bits (8 * length more) (bitXor (checksumOutcome bytes) (littleEndian more))
+  -- what 64 bits that fall out leave of eight bytes is what each of the eight tables has for its byte
+  pub by-tables : (x : ℕ) → x < 2 ^ 64
+      → bits 64 x
+      ≡ bitXor (tableEntry 7 (x % 256)) (bitXor (tableEntry 6 (x / 256 % 256)) (bitXor (tableEntry 5 (x / 65536 % 256)) (bitXor (tableEntry 4 (x / 16777216 % 256))
+      (bitXor (tableEntry 3 (x / 4294967296 % 256)) (bitXor (tableEntry 2 (x / 1099511627776 % 256)) (bitXor (tableEntry 1 (x / 281474976710656 % 256)) (tableEntry 0 (x / 72057594037927936 % 256))))))))
 
 -- Beyond the demands: the listings of one tree. The entry or absent, with some count
 pub record FirstFrom (says : Answer (List ℕ) → Meaning) (outcome : Meaning) (entry : Option (List ℕ)) : Type 0 where
