@@ -49,7 +49,7 @@ fn eights_on(first_low: u32, first_high: u32, bytes: &[u8]) -> u32
         let low = left ^ right;
         right = after_upper_two(low);
         let lower = after_lower_two(low);
-        if i == bytes.len() {
+        if bytes.len() - i < 8 {
             break (ahead ^ lower) ^ right;
         }
         left = (ahead ^ le::field4(bytes, i)) ^ lower;

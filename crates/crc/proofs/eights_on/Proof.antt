@@ -84,6 +84,7 @@ eights-on-spec =
     (λ c κs. search needs)
     (λ c κs. search needs)
     (λ c κs. search needs)
+    (λ c. omega arith)
     (λ c κs. omega arith)
     (λ c. omega arith)
     (λ c κs. omega arith)
