@@ -8,7 +8,8 @@ use refusal::Fault;
 use refusal::Refusal;
 use refusal::Verdict;
 ghost use mathlib.Core.Path.{_≡_};
-ghost use Prim.Native.Nat.{_+_, _≤_, _<_};
+ghost use Prim.Native.Nat.{_+_, _/_, _%_, _≤_, _<_};
+ghost use lib.Dec.{eqb};
 ghost use Rattle.refusal.specs.Order.{_at_, inOrder};
 ghost use Rattle.keys.specs.Records.{keyOf, RecordsIn};
 ghost use Rattle.keys.specs.Search.{withKey};
@@ -101,6 +102,29 @@ fn shape_at(tree: HeapTree, levels: usize) -> Shape
     }
 }
 
+// How many records of this size are whole. The sizes that properties have are said as numbers: the
+// compiler needs no division for those.
+fn whole_records(length: usize, size: usize) -> usize
+    requires { ⌜ 0 < size ⌝ }
+    ensures { λ r. ⌜ r ≡ length / size ⌝ }
+{
+    if size == 8 {
+        return length / 8;
+    }
+    if size == 6 {
+        return length / 6;
+    }
+    length / size
+}
+
+// Whether nothing is left behind them.
+fn nothing_left(length: usize, size: usize, count: usize) -> bool
+    requires { ⌜ count ≡ length / size ⌝ }
+    ensures { λ r. ⌜ r ≡ eqb (length % size) 0 ⌝ }
+{
+    count * size == length
+}
+
 // Whether an item, which holds so many records of this shape, is whole, and their keys ascend in the range.
 fn records_fit(bytes: &[u8], shape: Shape, count: usize, range: Range) -> bool
     requires { ⌜ (0 < shape .size) × (shape .width ≤ shape .size) × (shape .width ≤ 8) × (count ≡ recordCount shape (now bytes)) ⌝ }
@@ -108,7 +132,7 @@ fn records_fit(bytes: &[u8], shape: Shape, count: usize, range: Range) -> bool
 {
     let size = shape.size;
     let order = keys::check_keys(bytes, shape, count, range);
-    (1 <= bytes.len()) & (bytes.len() % size == 0) & keys::is_climbing(order)
+    (1 <= bytes.len()) & nothing_left(bytes.len(), size, count) & keys::is_climbing(order)
 }
 
 fn refused_held(fault: Fault) -> Held
@@ -135,7 +159,7 @@ fn check_branch(block: &[u8], tree: HeapTree, levels: usize, branch: Branch) -> 
     let records = heap::part_of(block, item);
     let shape = shape_at(tree, levels);
     let size = shape.size;
-    let count = records.len() / size;
+    let count = whole_records(records.len(), size);
     if !records_fit(records, shape, count, range) {
         return refused_held(fault);
     }
