@@ -198,7 +198,7 @@ fn check_under(image: &[u8], l: Layout, level: usize, p: Link) -> Verdict
     check_children(image, l, level - 1, p)
 }
 
-// The check of an accepted page's children, each with everything under it.
+// The check of an accepted page's children, each with everything under it; of a leaf page its test is all.
 fn check_children(image: &[u8], l: Layout, level: usize, p: Link) -> Verdict
     requires { ⌜ FairLayout l × (pageFits l (now image) p ≡ Verdict.Accepted) ⌝ }
     ensures { λ r. ⌜ r ≡ each (pageTree l (now (image .entry))) level (kidsFrom l (now (image .entry)) level p 0) ⌝ }
