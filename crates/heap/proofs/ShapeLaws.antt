@@ -1,13 +1,13 @@
 -- A block is accepted as a heap exactly when each rule holds. Assumes nothing.
 use Prim.Native.Nat.{ℕ, zero, suc, _+_, _≤_, _<_}
-use mathlib.Core.Path.{_≡_, refl, sym, ap, _∙_, subst}
+use mathlib.Core.Path.{_≡_, refl, sym, ap, ap₂, _∙_, subst}
 use mathlib.Core.Bool.{Bool, true, false, _&&_}
 use mathlib.Core.List.{List}
 use mathlib.Core.Logic.{_↔_, _⊎_, inl, inr}
 use native.Mathlib.Omega.{arith}
 use lib.Dec.{leb}
 use lib.ListN.{length}
-use borrow.Author.Tests.{leb-true, leb-false, le-leb, lt-leb, eqb-true, eq-eqb}
+use borrow.Author.Tests.{leb-true, leb-false, le-leb, eqb-true, eq-eqb}
 use Rattle.laws.proofs.Tests.{and-both, both-and}
 use Rattle.le.specs.Bytes.{byte}
 use Rattle.refusal.specs.declared.Refusal.{Refusal}
@@ -24,10 +24,6 @@ up-to P n i low top l = by (leb i n) refl
     by : (b : Bool) → leb i n ≡ b → P i
     by true e = low (leb-true i n e)
     by false e = let same : suc n ≡ i = omega (arith, leb-false i n e) in subst P same top
-
-and-false : (a b : Bool) → b ≡ false → (a && b) ≡ false
-and-false true b e = e
-and-false false b e = refl
 
 -- offsets that never fall, one at a time
 module _ (block : List ℕ) where
@@ -49,24 +45,13 @@ module _ (block : List ℕ) where
       both-and (neverFall block n) (leb (offset block (suc n)) (offset block (suc n + 1)))
       (never-fall-of n (λ i h l. c i h (omega arith))) (le-leb _ _ (c (suc n) (omega arith) (omega arith)))
 
-  -- one more offset that does not fall
-  pub one-more : (i : ℕ) → neverFall block i ≡ true → offset block (i + 1) ≤ offset block (i + 2) → neverFall block (i + 1) ≡ true
+  -- one offset more
+  pub one-on : (i : ℕ) → neverFall block (i + 1) ≡ (neverFall block i && leb (offset block (i + 1)) (offset block (i + 2)))
   unfolding neverFall
-  one-more i e h =
+  one-on i =
       let p : i + 1 ≡ suc i = omega arith in
-      let q : i + 2 ≡ suc i + 1 = omega arith in
-      ap (neverFall block) p
-      ∙ both-and (neverFall block i) (leb (offset block (suc i)) (offset block (suc i + 1))) e (le-leb _ _ (rw (p, q) at h))
-
-  -- an offset that falls
-  pub one-falls : (i n : ℕ) → i < n → offset block (i + 2) < offset block (i + 1) → neverFall block n ≡ false
-  unfolding neverFall
-  one-falls i zero l h = absurd (omega arith)
-  one-falls i (suc n) l h =
-      up-to (λ (j : ℕ). offset block (j + 1) < offset block j → (neverFall block n && leb (offset block (suc n)) (offset block (suc n + 1))) ≡ false)
-      n (i + 1) (λ below f. rw (one-falls i n (omega arith) h))
-      (λ f. and-false (neverFall block n) _ (lt-leb _ _ f)) (omega arith)
-      (let q : i + 2 ≡ i + 1 + 1 = omega arith in rw q at h)
+      let q : suc i + 1 ≡ i + 2 = omega arith in
+      ap (neverFall block) p ∙ ap₂ (λ (n m : ℕ). neverFall block i && leb (offset block n) (offset block m)) (sym p) q
 
 -- the offsets as one test
 pub heap-offsets : (block : List ℕ) → Heap block → offsetsFit block ≡ true

@@ -62,22 +62,21 @@ fn map_fits(block: &[u8]) -> bool
     map + 4 + 2 * (item_count(block) + 1) <= block.len()
 }
 
+// All offsets are looked at, whatever is found: so the compiler compares several at once.
 fn order_fits(block: &[u8]) -> bool
     requires { ⌜ (12 ≤ length (now block)) × (mapEnd (now block) ≤ length (now block)) ⌝ }
     ensures { λ r. ⌜ r ≡ neverFall (now (block .entry)) (itemCount (now (block .entry))) ⌝ }
 {
     let count = item_count(block);
-    let mut last = offset_at(block, 1);
+    let mut fits = true;
     let mut i = 0;
     while i < count {
+        let last = offset_at(block, i + 1);
         let next = offset_at(block, i + 2);
-        if next < last {
-            return false;
-        }
-        last = next;
+        fits = fits & (last <= next);
         i += 1;
     }
-    true
+    fits
 }
 
 fn offsets_fit(block: &[u8]) -> bool

@@ -1,42 +1,39 @@
-use mathlib.Core.Path.{_≡_, refl, sym, ap, _∙_}
-use Prim.Native.Nat.{_+_, _-_, _≤_}
-use mathlib.Core.Bool.{true}
+use mathlib.Core.Path.{_≡_, refl, sym, ap, ap₂, _∙_}
+use Prim.Native.Nat.{ℕ, _+_, _-_, _≤_}
+use mathlib.Core.Bool.{Bool, _&&_}
 use native.Mathlib.Omega.{arith}
+use lib.Dec.{leb}
 use borrow.Author.Needs.{needs}
 use Rattle.heap.specs.Shape.{itemCount, offset, neverFall}
-use Rattle.heap.proofs.ShapeLaws.{one-more, one-falls}
+use Rattle.heap.proofs.ShapeLaws.{one-on}
 use Rattle.heap.proofs.order_fits.Statement.{statement}
 use Rattle.heap.proofs.order_fits.Tie as tie
 
 abbrev Inv-loop : tie.InvT-loop
-Inv-loop block count last₀ i₀ last i = (i ≤ count) × (neverFall block i ≡ true) × (last ≡ offset block (i + 1))
+Inv-loop block count fits₀ i₀ fits i = (i ≤ count) × (fits ≡ neverFall block i)
 
 abbrev μ-loop : tie.MeasureT-loop
-μ-loop block count last₀ i₀ last i = count - i
+μ-loop block count fits₀ i₀ fits i = count - i
 
 loop-holds : tie.Need-loop-holds Inv-loop μ-loop
 unfolding neverFall
-loop-holds c = (omega arith, refl, c .offset-at .ensures .0)
-
-returns : tie.Need-returns Inv-loop μ-loop
-returns c =
-    let b = c .before .before .before .before .before .before .before .args .block .now in
-    let l = c .before .before .before .loop in
-    sym (one-falls b (l .i) (itemCount b) (omega arith) (omega arith))
+loop-holds c = (omega arith, refl)
 
 loop-again : tie.Need-loop-again Inv-loop μ-loop
 loop-again c =
-    let b = c .before .before .before .before .before .before .before .args .block .now in
-    let l = c .before .before .before .loop in
-    let next : l .i + 2 ≡ l .i + 1 + 1 = omega arith in
-    (omega arith, one-more b (l .i) (l .inv .1) (omega arith), c .before .offset-at2 .ensures .0 ∙ ap (offset b) next)
+    let b = c .before .before .before .before .before .before .args .block .now in
+    let l = c .before .before .before .loop in (
+      omega arith,
+      ap (λ (t : Bool). t && leb (c .before .offset-at .result) (c .offset-at2 .result)) (l .inv .1)
+          ∙ ap₂ (λ (n m : ℕ). neverFall b (l .i) && leb n m) (c .before .offset-at .ensures .0) (c .offset-at2 .ensures .0)
+          ∙ sym (one-on b (l .i)),
+    )
 
-returns-2 : tie.Need-returns-2 Inv-loop μ-loop
-returns-2 c =
-    let b = c .before .before .before .before .before .args .block .now in
-    let l = c .before .loop in
-    let all : l .i ≡ itemCount b = omega arith in
-    sym (ap (neverFall b) (sym all) ∙ l .inv .1)
+returns : tie.Need-returns Inv-loop μ-loop
+returns c =
+    let b = c .before .before .before .before .args .block .now in
+    let all : c .before .loop .i ≡ itemCount b = omega arith in
+    c .before .loop .inv .1 ∙ ap (neverFall b) all
 
 pub order-fits-spec : {M : Type 1} → statement M
 order-fits-spec =
@@ -45,12 +42,12 @@ order-fits-spec =
     Inv-loop
     μ-loop
     (λ c κs. search needs)
-    (λ c κs. search needs)
     loop-holds
     (λ c. omega arith)
     (λ c κs. search needs)
-    returns
+    (λ c. omega arith)
+    (λ c κs. search needs)
     (λ c. omega arith)
     (λ c. omega arith)
     loop-again
-    returns-2)
+    returns)
