@@ -9,7 +9,6 @@ mod tables;
 use libc::STDOUT_FILENO;
 ghost use Prim.Native.Nat.{_≤_, _<_};
 ghost use lib.ListN.{length};
-ghost use Rattle.io.specs.Counts.{Counts};
 
 // 003, 3.2: the checksum of so many bytes from 8 stands in the header at `place`.
 fn header_checksum(header: &[u8], size: usize, place: usize) {

@@ -1,10 +1,10 @@
 use mathlib.Core.Path.{_≡_, refl, sym, ap, ap₂, _∙_}
-use Prim.Native.Nat.{ℕ, _+_, _-_, _≤_}
+use Prim.Native.Nat.{ℕ, _-_, _≤_}
 use mathlib.Core.Bool.{Bool, _&&_}
 use native.Mathlib.Omega.{arith}
 use lib.Dec.{leb}
 use borrow.Author.Needs.{needs}
-use Rattle.heap.specs.Shape.{itemCount, offset, neverFall}
+use Rattle.heap.specs.Shape.{itemCount, neverFall}
 use Rattle.heap.proofs.ShapeLaws.{one-on}
 use Rattle.heap.proofs.order_fits.Statement.{statement}
 use Rattle.heap.proofs.order_fits.Tie as tie

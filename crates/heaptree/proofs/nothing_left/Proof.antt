@@ -1,9 +1,8 @@
 use mathlib.Core.Path.{_≡_, refl, sym, ap, _∙_}
 use Prim.Native.Nat.{ℕ, zero, suc, _+_, _*_, _/_, _%_}
-use native.Mathlib.Nat.{add-zero, zero-add, suc-add, div-add-mod'}
+use native.Mathlib.Nat.{zero-add, suc-add, div-add-mod'}
 use native.Mathlib.Omega.{arith}
 use lib.Dec.{eqb, eqb·zero-suc, eqb·suc-zero, eqb·suc-suc}
-use borrow.Author.Needs.{needs}
 use Rattle.heaptree.proofs.nothing_left.Statement.{statement}
 use Rattle.heaptree.proofs.nothing_left.Tie as tie
 

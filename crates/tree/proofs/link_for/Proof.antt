@@ -1,8 +1,7 @@
-use mathlib.Core.Path.{_≡_, sym, ap, _∙_}
+use mathlib.Core.Path.{sym}
 use native.Mathlib.Omega.{arith}
 use Rattle.page.specs.Page.{page}
 use Rattle.page.proofs.PageLaws.{page-part, page-length}
-use Rattle.tree.specs.declared.Next.the-variants.{Here}
 use Rattle.tree.specs.Answers.{kidsFrom}
 use Rattle.tree.proofs.Walk.{accepted-inside, accepted-counts}
 use Rattle.tree.proofs.Children.{link-ready, next-some}
