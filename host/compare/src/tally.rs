@@ -130,8 +130,8 @@ impl fmt::Display for Tally {
             writeln!(f, "{number:>7} {:>9}", self.refusals(number))?;
         }
         self.write_keys(f)?;
-        self.write_lists(f)?;
-        self.write_checksums(f)
+        write_counts(f, ("lists of nodes", "times"), &self.lists)?;
+        write_counts(f, ("checksums", "calls"), &self.checksums)
     }
 }
 
@@ -150,22 +150,18 @@ impl Tally {
         }
         Ok(())
     }
+}
 
-    fn write_lists(&self, f: &mut fmt::Formatter) -> fmt::Result {
-        writeln!(f, "\n{:<39} {:>8}", "lists of nodes", "times")?;
-        for (met, count) in &self.lists {
-            let met = met.to_string();
-            writeln!(f, "{met:<39} {count:>8}")?;
-        }
-        Ok(())
+/// How often each of some things was met, a line for each.
+fn write_counts<M: fmt::Display>(
+    f: &mut fmt::Formatter,
+    (what, of): (&str, &str),
+    counts: &BTreeMap<M, u64>,
+) -> fmt::Result {
+    writeln!(f, "\n{what:<39} {of:>8}")?;
+    for (met, count) in counts {
+        let met = met.to_string();
+        writeln!(f, "{met:<39} {count:>8}")?;
     }
-
-    fn write_checksums(&self, f: &mut fmt::Formatter) -> fmt::Result {
-        writeln!(f, "\n{:<39} {:>8}", "checksums", "calls")?;
-        for (met, count) in &self.checksums {
-            let met = met.to_string();
-            writeln!(f, "{met:<39} {count:>8}")?;
-        }
-        Ok(())
-    }
+    Ok(())
 }
