@@ -16,8 +16,9 @@ use Rattle.refusal.specs.declared.Verdict.the-variants.{Accepted, Refused}
 use Rattle.refusal.specs.Order.{_needing_, demand, inOrder, after, AllHold, none, both}
 use Rattle.refusal.proofs.OrderLaws.{goes, ends, accepted-exactly}
 use Rattle.keys.specs.Search.{joined}
+use Rattle.keys.proofs.Pieces.{pieces-length, piece-at}
 use Rattle.nodelist.specs.Places.{placeOf, placesOf, listRules, listFits, areaOf}
-use Rattle.nodelist.proofs.Words.{pieces-length, piece-at, place-length}
+use Rattle.nodelist.proofs.Words.{place-length}
 
 module _ (count words : ℕ) where
   pub too-many : 4096 < count → Refused (ShortBuffer needing 4096) ≡ listFits count words

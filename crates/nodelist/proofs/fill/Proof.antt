@@ -8,12 +8,13 @@ use lib.Seq.{take-all, length-take-le}
 use Rattle.laws.specs.Front.{fronted}
 use Rattle.laws.proofs.Fronts.{behind}
 use Rattle.keys.specs.Search.{joined}
+use Rattle.keys.proofs.Pieces.{pieces-length, pieces-on}
 use Rattle.page.specs.Layout.{nbt}
 use Rattle.tree.specs.Ways.{startFits, FromRoot}
 use Rattle.tree.proofs.Ways.{leads-nowhere}
 use Rattle.tree.specs.declared.FoundNode.{FoundNode}
 use Rattle.nodelist.specs.Places.{nodeWords, placeOf, placesOf}
-use Rattle.nodelist.proofs.Words.{pieces-length, pieces-on, place-length}
+use Rattle.nodelist.proofs.Words.{place-length}
 use Rattle.nodelist.proofs.fill.Statement.{statement}
 use Rattle.nodelist.proofs.fill.Tie as tie
 
