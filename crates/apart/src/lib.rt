@@ -1,0 +1,104 @@
+// That no two columns of a table share a tag, a byte or an existence bit.
+use columns::Column;
+ghost use mathlib.Core.Path.{_≡_};
+ghost use mathlib.Core.Bool.{true};
+ghost use Prim.Native.Nat.{_+_, _*_, _≤_, _<_};
+ghost use lib.ListN.{length};
+ghost use Rattle.columns.specs.Record.{columnCount};
+ghost use Rattle.columns.specs.Columns.{apart, apartFrom, allApart, columnsFit, eachFits};
+ghost use Rattle.columns.specs.Sound.{RecordSound};
+ghost use Rattle.apart.specs.Steps.{marked, Free};
+
+fn are_apart(one: Column, other: Column) -> bool
+    requires { ⌜ (one .offset < 65536) × (one .width < 256) × (other .offset < 65536) × (other .width < 256) ⌝ }
+    ensures { λ r. ⌜ r ≡ apart one other ⌝ }
+{
+    (one.tag != other.tag)
+        & ((one.offset + one.width <= other.offset) | (other.offset + other.width <= one.offset))
+        & (one.bit != other.bit)
+}
+
+// Whether the column shares nothing with each of the first n.
+fn apart_from(table: &[u8], column: Column, n: usize) -> bool
+    requires { ⌜ (22 + 8 * n ≤ length (now table)) × (n < 256) × (column .offset < 65536) × (column .width < 256) ⌝ }
+    ensures { λ r. ⌜ r ≡ apartFrom (now (table .entry)) column n ⌝ }
+{
+    let mut fits = true;
+    let mut i: usize = 0;
+    while i < n {
+        fits = fits & are_apart(columns::column_at(table, i), column);
+        i += 1;
+    }
+    fits
+}
+
+// Any two columns, one pair after the other.
+fn apart_by_pairs(table: &[u8]) -> bool
+    requires { ⌜ RecordSound (now table) ⌝ }
+    ensures { λ r. ⌜ r ≡ allApart (now (table .entry)) (columnCount (now (table .entry))) ⌝ }
+{
+    let count = columns::column_count(table);
+    let mut fits = true;
+    let mut i: usize = 0;
+    while i < count {
+        fits = fits & apart_from(table, columns::column_at(table, i), i);
+        i += 1;
+    }
+    fits
+}
+
+// Marks so many places from one on, and tells whether none of them had a mark.
+fn claim(marks: &mut [u8], from: usize, count: usize) -> bool
+    requires { ⌜ from + count ≤ length (now marks) ⌝ }
+    ensures free { λ r. ⌜ (r ≡ true → Free (now (marks .entry)) from count) ⌝ }
+    ensures marks { λ _. ⌜ now (marks .exit) ≡ marked (now (marks .entry)) from count ⌝ }
+{
+    let mut free = true;
+    let mut i: usize = 0;
+    while i < count {
+        free = free & (marks[from + i] == 0);
+        marks[from + i] = 1;
+        i += 1;
+    }
+    free
+}
+
+// A quick pass over columns whose tags ascend, in rows that are not long: each marks its bytes and its
+// bit. Where it says no, nothing is known.
+fn apart_surely(table: &[u8]) -> bool
+    requires { ⌜ RecordSound (now table) × (eachFits (now table) (columnCount (now table)) ≡ true) ⌝ }
+    ensures { λ r. ⌜ (r ≡ true → allApart (now (table .entry)) (columnCount (now (table .entry))) ≡ true) ⌝ }
+{
+    let count = columns::column_count(table);
+    if 1024 < columns::existence_start(table) {
+        return false;
+    }
+    let mut bytes = [0u8; 1024];
+    let mut bits = [0u8; 256];
+    let mut above: u64 = 0;
+    let mut sure = true;
+    let mut i: usize = 0;
+    while i < count {
+        let column = columns::column_at(table, i);
+        let bytes_free = claim(&mut bytes, column.offset, column.width);
+        let bit_free = claim(&mut bits, column.bit, 1);
+        sure = sure & bytes_free & bit_free & (above <= column.tag as u64);
+        above = column.tag as u64 + 1;
+        i += 1;
+    }
+    sure
+}
+
+// Whether each column has its place in a row, and no two share anything.
+pub fn columns_fit(table: &[u8]) -> bool
+    requires { ⌜ RecordSound (now table) ⌝ }
+    ensures { λ r. ⌜ r ≡ columnsFit (now (table .entry)) ⌝ }
+{
+    if !columns::each_fits(table) {
+        return false;
+    }
+    if apart_surely(table) {
+        return true;
+    }
+    apart_by_pairs(table)
+}
