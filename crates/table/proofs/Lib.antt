@@ -1,0 +1,3 @@
+pub mod ContextLaws
+pub mod IndexLaws
+pub mod RowLaws

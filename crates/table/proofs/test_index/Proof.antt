@@ -1,0 +1,35 @@
+use mathlib.Core.Path.{sym, ap, ap₂, _∙_}
+use Prim.Native.Nat.{ℕ}
+use mathlib.Core.List.{List}
+use native.Mathlib.Omega.{arith}
+use Rattle.refusal.specs.Order.{inOrder}
+use Rattle.heaptree.specs.declared.HeapTree.{HeapTree}
+use Rattle.heaptree.specs.Root.{rootRules}
+use Rattle.columns.specs.Record.{rowIndexItem}
+use Rattle.table.specs.Context.{TableSound}
+use Rattle.table.proofs.ContextLaws.{table-exactly, record-long}
+use Rattle.table.proofs.IndexLaws.{wrong-table, right-table}
+use borrow.Author.Needs.{needs}
+use Rattle.table.proofs.test_index.Statement.{statement}
+use Rattle.table.proofs.test_index.Tie as tie
+
+returns-2 : tie.Need-returns-2
+returns-2 c =
+    let block = c .before .before .before .before .before .before .before .before .args .block .now in
+    c .check-root .ensures
+    ∙ ap₂ (λ (tree : HeapTree) (root : ℕ). inOrder (rootRules tree block root)) (c .before .row-index .ensures) (c .before .before .row-index-item .ensures ∙ ap rowIndexItem (c .before .before .before .record-of .ensures))
+    ∙ sym (right-table block (sym (c .before .before .before .before .before .before .test-table .ensures) ∙ c .before .before .before .before .enum-told .given .1))
+
+pub test-index-spec : {M : Type 1} → statement M
+test-index-spec =
+    tie.close
+    (tie.spec
+    (λ c κs. search needs)
+    (λ c. search needs)
+    (λ c. search needs)
+    (λ c. c .before .before .test-table .ensures ∙ sym (wrong-table _ _ (sym (c .before .before .test-table .ensures) ∙ c .enum-told2 .given .1)))
+    (λ c κs. table-exactly _ .0 (sym (c .before .before .test-table .ensures) ∙ c .enum-told .given .1))
+    (λ c κs. rw (c .record-of .ensures) (record-long _ (table-exactly _ .0 (sym (c .before .before .before .test-table .ensures) ∙ c .before .enum-told .given .1))))
+    (λ c κs. search needs)
+    (λ c κs. table-exactly _ .0 (sym (c .before .before .before .before .before .test-table .ensures) ∙ c .before .before .before .enum-told .given .1) .heap)
+    returns-2)
