@@ -1,0 +1,5 @@
+pub mod HeldLaws
+pub mod RowLaws
+pub mod CellLaws
+pub mod TriedLaws
+pub mod WithinLaws
