@@ -8,9 +8,10 @@ use lib.Dec.{leb}
 use lib.ListN.{length}
 use borrow.Author.Tests.{leb-true, le-leb, lt-leb}
 use Rattle.refusal.specs.declared.Refusal.{Refusal}
+use Rattle.refusal.specs.declared.Verdict.{Verdict}
 use Rattle.refusal.specs.declared.Verdict.the-variants.{Accepted, Refused}
-use Rattle.refusal.specs.Order.{_then_, rule, demand, inOrder}
-use Rattle.refusal.proofs.OrderLaws.{goes, ends, demanded, test-goes, test-ends, then-left, then-right, in-order-append}
+use Rattle.refusal.specs.Order.{_then_, rule, demand, inOrder, after, FirstFault}
+use Rattle.refusal.proofs.OrderLaws.{goes, ends, demanded, test-goes, test-ends, then-left, then-right, refused-exactly, in-order-append}
 use Rattle.heap.specs.Items.{itemFits, Numbered, badItem, itemPart}
 use Rattle.heap.proofs.ItemLaws.{number-exactly}
 use Rattle.table.specs.declared.Named.{Named}
@@ -121,3 +122,16 @@ module _ (block rows : List ℕ) where
   pub cell-on : (row tag : ℕ) → rowsTest block rows ≡ Accepted → cellOf block rows row tag ≡ cellIn block (tableRecord block) (rowBytes block rows) row tag
   unfolding cellOf
   cell-on row tag e = goes cell.Refused _ _ e
+
+  -- the count is refused exactly with the first fault
+  count-back : (v : Verdict) (n : ℕ) (r : Refusal) → after counted.Refused v (counted.Rows n) ≡ counted.Refused r → v ≡ Refused r
+  unfolding after
+  count-back Accepted n r e = cc
+  count-back (Refused s) n r e = cc
+
+  pub count-told-exactly : (r : Refusal) → (countOf block rows ≡ counted.Refused r) ↔ FirstFault (rowsRules block rows) r
+  unfolding countOf rowsTest
+  count-told-exactly r = (
+    (λ e. refused-exactly (rowsRules block rows) r .0 (count-back (rowsTest block rows) (rowCount (tableRecord block) (rowBytes block rows)) r e)),
+    (λ f. count-refused r (refused-exactly (rowsRules block rows) r .1 f)),
+  )

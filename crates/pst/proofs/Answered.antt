@@ -24,9 +24,20 @@ use Rattle.heap.specs.Shape.{heapTest}
 use Rattle.heap.specs.Items.{itemTest, itemSpan}
 use Rattle.property.specs.declared.Property.{Property}
 use Rattle.property.specs.Lookup.{property}
-use Rattle.pst.specs.Meaning.{verdictMeans, headerMeans, nodeMeans, blockMeans, sizedMeans, dataMeans, spanMeans, propertyMeans}
-use Rattle.pst.specs.Outcomes.{headerOutcome, nodesOutcome, blocksOutcome, nodeOutcome, listOutcome, listArea, blockOutcome, nextNodeOutcome, nextBlockOutcome, testOutcome, readOutcome, dataOutcome, codeOutcome, heapOutcome, testItemOutcome, spanOutcome, propertyOutcome, readBuffer, dataBuffer, encodeBuffer, decodeBuffer, checksumOutcome, signatureOutcome, roomOutcome}
-use Rattle.pst.proofs.Injective.{verdict-injective, header-injective, node-injective, block-injective, sized-injective, data-injective, span-injective, property-injective}
+use Rattle.table.specs.declared.TableAnswer.{TableAnswer}
+use Rattle.table.specs.declared.ColumnAnswer.{ColumnAnswer}
+use Rattle.table.specs.declared.FoundRow.{FoundRow}
+use Rattle.table.specs.Says.{tableOf, columnOf}
+use Rattle.table.specs.RowIndex.{rowOf}
+use Rattle.cells.specs.declared.Counted.{Counted}
+use Rattle.cells.specs.declared.Cell.{Cell}
+use Rattle.cells.specs.Rows.{countOf}
+use Rattle.cells.specs.Cells.{cellOf}
+use Rattle.rowcells.specs.declared.RowRead.{RowRead}
+use Rattle.rowcells.specs.RowCells.{rowRead, rowArea}
+use Rattle.pst.specs.Meaning.{verdictMeans, headerMeans, nodeMeans, blockMeans, sizedMeans, dataMeans, spanMeans, propertyMeans, tableMeans, columnMeans, countMeans, cellMeans, rowMeans, cellsMeans}
+use Rattle.pst.specs.Outcomes.{headerOutcome, nodesOutcome, blocksOutcome, nodeOutcome, listOutcome, listArea, blockOutcome, nextNodeOutcome, nextBlockOutcome, testOutcome, readOutcome, dataOutcome, codeOutcome, heapOutcome, testItemOutcome, spanOutcome, propertyOutcome, tableOutcome, columnOutcome, countOutcome, cellOutcome, rowOutcome, readRowOutcome, readRowArea, readBuffer, dataBuffer, encodeBuffer, decodeBuffer, checksumOutcome, signatureOutcome, roomOutcome}
+use Rattle.pst.proofs.Injective.{verdict-injective, header-injective, node-injective, block-injective, sized-injective, data-injective, span-injective, property-injective, table-injective, column-injective, count-injective, cell-injective, row-injective, cells-injective}
 
 pub header-is : (image : List ℕ) (answer : HeaderAnswer) → headerMeans answer ≡ headerOutcome image → answer ≡ headerOf image
 unfolding headerOutcome
@@ -92,7 +103,35 @@ pub property-is : (block : List ℕ) (id : ℕ) (answer : Property) → property
 unfolding propertyOutcome
 property-is block id answer e = property-injective answer _ e
 
+pub table-is : (block : List ℕ) (answer : TableAnswer) → tableMeans answer ≡ tableOutcome block → answer ≡ tableOf block
+unfolding tableOutcome
+table-is block answer e = table-injective answer _ e
+
+pub column-is : (block : List ℕ) (index : ℕ) (answer : ColumnAnswer) → columnMeans answer ≡ columnOutcome block index → answer ≡ columnOf block index
+unfolding columnOutcome
+column-is block index answer e = column-injective answer _ e
+
+pub count-is : (block rows : List ℕ) (answer : Counted) → countMeans answer ≡ countOutcome block rows → answer ≡ countOf block rows
+unfolding countOutcome
+count-is block rows answer e = count-injective answer _ e
+
+pub cell-is : (block rows : List ℕ) (row tag : ℕ) (answer : Cell) → cellMeans answer ≡ cellOutcome block rows row tag → answer ≡ cellOf block rows row tag
+unfolding cellOutcome
+cell-is block rows row tag answer e = cell-injective answer _ e
+
+pub row-is : (block : List ℕ) (id : ℕ) (answer : FoundRow) → rowMeans answer ≡ rowOutcome block id → answer ≡ rowOf block id
+unfolding rowOutcome
+row-is block id answer e = row-injective answer _ e
+
+pub read-row-is : (block rows : List ℕ) (row : ℕ) (area : List ℕ) (answer : RowRead) → cellsMeans answer ≡ readRowOutcome block rows row area → answer ≡ rowRead block rows row (length area)
+unfolding readRowOutcome
+read-row-is block rows row area answer e = cells-injective answer _ e
+
 -- the buffers at exit, and the calls that answer a number
+pub row-area-is : (block rows : List ℕ) (row : ℕ) (area : List ℕ) → readRowArea block rows row area ≡ rowArea block rows row area
+unfolding readRowArea
+row-area-is block rows row area = refl
+
 pub list-area-is : (image nodes area : List ℕ) → listArea image nodes area ≡ areaOf image nodes area
 unfolding listArea
 list-area-is image nodes area = refl

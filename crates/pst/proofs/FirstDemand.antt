@@ -23,11 +23,21 @@ use Rattle.heap.specs.Shape.{shapeRules, heapTest}
 use Rattle.heap.specs.Items.{itemRules, itemTest, itemSpan}
 use Rattle.property.specs.Lookup.{propertyRules}
 use Rattle.property.proofs.TriedLaws.{property-refused-exactly}
-use Rattle.pst.specs.Meaning.{verdictMeans, headerMeans, nodeMeans, blockMeans, sizedMeans, dataMeans, spanMeans, propertyMeans}
-use Rattle.pst.specs.Outcomes.{headerOutcome, nodesOutcome, blocksOutcome, nodeOutcome, listOutcome, blockOutcome, nextNodeOutcome, nextBlockOutcome, testOutcome, readOutcome, dataOutcome, codeOutcome, heapOutcome, testItemOutcome, spanOutcome, propertyOutcome}
+use Rattle.table.specs.Context.{tableRules}
+use Rattle.table.specs.RowIndex.{rowRules}
+use Rattle.table.proofs.RowLaws.{row-refused-exactly}
+use Rattle.table.proofs.SaidLaws.{table-told-exactly, column-told-exactly}
+use Rattle.cells.specs.Rows.{rowsRules}
+use Rattle.cells.specs.Tried.{cellRules}
+use Rattle.cells.proofs.HeldLaws.{count-told-exactly}
+use Rattle.cells.proofs.TriedLaws.{cell-refused-exactly}
+use Rattle.rowcells.specs.RowCells.{readRowRules}
+use Rattle.rowcells.proofs.ReadLaws.{read-refused-exactly}
+use Rattle.pst.specs.Meaning.{verdictMeans, headerMeans, nodeMeans, blockMeans, sizedMeans, dataMeans, spanMeans, propertyMeans, tableMeans, columnMeans, countMeans, cellMeans, rowMeans, cellsMeans}
+use Rattle.pst.specs.Outcomes.{headerOutcome, nodesOutcome, blocksOutcome, nodeOutcome, listOutcome, blockOutcome, nextNodeOutcome, nextBlockOutcome, testOutcome, readOutcome, dataOutcome, codeOutcome, heapOutcome, testItemOutcome, spanOutcome, propertyOutcome, tableOutcome, columnOutcome, countOutcome, cellOutcome, rowOutcome, readRowOutcome}
 use Rattle.pst.specs.Demands.{Told, methodRules, FirstDemand}
-use Rattle.pst.proofs.Refusals.{verdict-told, header-verdict, header-told, node-told, block-told, sized-told, data-told, span-told, property-told}
-use Rattle.pst.proofs.Untouched.{list-untouched, read-untouched, data-untouched, encode-untouched, decode-untouched}
+use Rattle.pst.proofs.Refusals.{verdict-told, header-verdict, header-told, node-told, block-told, sized-told, data-told, span-told, property-told, table-told, column-told, count-told, cell-told, row-told, cells-told}
+use Rattle.pst.proofs.Untouched.{list-untouched, read-untouched, data-untouched, encode-untouched, decode-untouched, row-untouched}
 
 header-call : (image : List ℕ) → Told headerMeans (headerRules image) (headerOutcome image)
 unfolding headerOutcome headerOf headerFits
@@ -98,6 +108,30 @@ property-call : (block : List ℕ) (id : ℕ) → Told propertyMeans (propertyRu
 unfolding propertyOutcome
 property-call block id = property-told _ (propertyRules block id) (property-refused-exactly block id)
 
+table-call : (block : List ℕ) → Told tableMeans (tableRules block) (tableOutcome block)
+unfolding tableOutcome
+table-call block = table-told _ (tableRules block) (table-told-exactly block)
+
+column-call : (block : List ℕ) (index : ℕ) → Told columnMeans (tableRules block) (columnOutcome block index)
+unfolding columnOutcome
+column-call block index = column-told _ (tableRules block) (column-told-exactly block index)
+
+count-call : (block rows : List ℕ) → Told countMeans (rowsRules block rows) (countOutcome block rows)
+unfolding countOutcome
+count-call block rows = count-told _ (rowsRules block rows) (count-told-exactly block rows)
+
+cell-call : (block rows : List ℕ) (row tag : ℕ) → Told cellMeans (cellRules block rows row tag) (cellOutcome block rows row tag)
+unfolding cellOutcome
+cell-call block rows row tag = cell-told _ (cellRules block rows row tag) (cell-refused-exactly block rows row tag)
+
+row-call : (block : List ℕ) (id : ℕ) → Told rowMeans (rowRules block id) (rowOutcome block id)
+unfolding rowOutcome
+row-call block id = row-told _ (rowRules block id) (row-refused-exactly block id)
+
+read-row-call : (block rows : List ℕ) (row : ℕ) (area : List ℕ) → Told cellsMeans (readRowRules block rows row (length area)) (readRowOutcome block rows row area)
+unfolding readRowOutcome
+read-row-call block rows row area = cells-told _ (readRowRules block rows row (length area)) (read-refused-exactly block rows row (length area))
+
 pub first-demand : FirstDemand
 first-demand =
     record {
@@ -117,9 +151,16 @@ first-demand =
       test-item = test-item-call;
       find-item = find-item-call;
       find-property = property-call;
+      table = table-call;
+      column = column-call;
+      count-rows = count-call;
+      cell = cell-call;
+      find-row = row-call;
+      read-row = read-row-call;
       find-nodes-leaves = list-untouched;
       read-block-leaves = read-untouched;
       read-node-leaves = data-untouched;
       encode-leaves = encode-untouched;
       decode-leaves = decode-untouched;
+      read-row-leaves = row-untouched;
     }

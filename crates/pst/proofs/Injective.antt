@@ -23,7 +23,21 @@ use Rattle.heap.specs.declared.Span.{Span}
 use Rattle.heap.specs.declared.Span.the-variants as span
 use Rattle.property.specs.declared.Property.{Property}
 use Rattle.property.specs.declared.Property.the-variants as property
-use Rattle.pst.specs.Meaning.{Meaning, answered, absent, refused, refusalMeans, verdictMeans, headerMeans, nodeMeans, blockMeans, sizedMeans, dataMeans, spanMeans, propertyMeans}
+use Rattle.table.specs.declared.Named.{Named}
+use Rattle.table.specs.declared.Named.the-variants as named
+use Rattle.table.specs.declared.TableAnswer.{TableAnswer}
+use Rattle.table.specs.declared.TableAnswer.the-variants as table
+use Rattle.table.specs.declared.ColumnAnswer.{ColumnAnswer}
+use Rattle.table.specs.declared.ColumnAnswer.the-variants as column
+use Rattle.table.specs.declared.FoundRow.{FoundRow}
+use Rattle.table.specs.declared.FoundRow.the-variants as row
+use Rattle.cells.specs.declared.Counted.{Counted}
+use Rattle.cells.specs.declared.Counted.the-variants as count
+use Rattle.cells.specs.declared.Cell.{Cell}
+use Rattle.cells.specs.declared.Cell.the-variants as cell
+use Rattle.rowcells.specs.declared.RowRead.{RowRead}
+use Rattle.rowcells.specs.declared.RowRead.the-variants as cells
+use Rattle.pst.specs.Meaning.{Meaning, answered, absent, refused, refusalMeans, verdictMeans, headerMeans, nodeMeans, blockMeans, sizedMeans, dataMeans, spanMeans, propertyMeans, kindOf, numberOf, tableMeans, columnMeans, countMeans, cellMeans, rowMeans, cellsMeans}
 
 numberIn : Meaning → ℕ
 numberIn (answered values) = 0
@@ -188,3 +202,109 @@ property-told (property.Refused r) = record { refusal = r; told = refl; back = r
 
 pub property-injective : (x y : Property) → propertyMeans x ≡ propertyMeans y → x ≡ y
 property-injective = injective Property propertyMeans property-answer property-told
+
+named-back : ℕ → ℕ → Named
+named-back zero number = named.Nothing
+named-back (suc zero) number = named.Nothing
+named-back (suc (suc zero)) number = named.Item number
+named-back (suc (suc (suc n))) number = named.Subnode number
+
+named-told : (n : Named) → named-back (kindOf n) (numberOf n) ≡ n
+unfolding named-back kindOf numberOf
+named-told named.Nothing = refl
+named-told (named.Item item) = refl
+named-told (named.Subnode subnode) = refl
+
+table-answer : Refusal → Meaning → TableAnswer
+table-answer r (answered v) = table.Says (record { columns = getD v 0 0; size = getD v 1 0; existence = getD v 2 0; rows = named-back (getD v 3 0) (getD v 4 0) })
+table-answer r (absent v) = table.Refused r
+table-answer r (refused n place more) = table.Refused r
+
+table-told : (x : TableAnswer) → Told TableAnswer tableMeans table-answer x
+unfolding tableMeans table-answer refusalPart refusalMeans
+table-told (table.Says t) =
+    record { refusal = nothing; told = refl; back = ap (λ (n : Named). table.Says (record { columns = t .columns; size = t .size; existence = t .existence; rows = n })) (named-told (t .rows)) }
+table-told (table.Refused r) = record { refusal = r; told = refl; back = refl }
+
+pub table-injective : (x y : TableAnswer) → tableMeans x ≡ tableMeans y → x ≡ y
+table-injective = injective TableAnswer tableMeans table-answer table-told
+
+column-answer : Refusal → Meaning → ColumnAnswer
+column-answer r (answered v) = column.Found (record { tag = getD v 0 0; offset = getD v 1 0; width = getD v 2 0; bit = getD v 3 0 })
+column-answer r (absent v) = column.Absent
+column-answer r (refused n place more) = column.Refused r
+
+column-told : (x : ColumnAnswer) → Told ColumnAnswer columnMeans column-answer x
+unfolding columnMeans column-answer refusalPart refusalMeans
+column-told (column.Found c) = record { refusal = nothing; told = refl; back = refl }
+column-told column.Absent = record { refusal = nothing; told = refl; back = refl }
+column-told (column.Refused r) = record { refusal = r; told = refl; back = refl }
+
+pub column-injective : (x y : ColumnAnswer) → columnMeans x ≡ columnMeans y → x ≡ y
+column-injective = injective ColumnAnswer columnMeans column-answer column-told
+
+count-answer : Refusal → Meaning → Counted
+count-answer r (answered v) = count.Rows (getD v 0 0)
+count-answer r (absent v) = count.Rows (getD v 0 0)
+count-answer r (refused n place more) = count.Refused r
+
+count-told : (x : Counted) → Told Counted countMeans count-answer x
+unfolding countMeans count-answer refusalPart refusalMeans
+count-told (count.Rows n) = record { refusal = nothing; told = refl; back = refl }
+count-told (count.Refused r) = record { refusal = r; told = refl; back = refl }
+
+pub count-injective : (x y : Counted) → countMeans x ≡ countMeans y → x ≡ y
+count-injective = injective Counted countMeans count-answer count-told
+
+cell-value : ℕ → ℕ → Cell
+cell-value zero value = cell.Number value
+cell-value (suc zero) value = cell.Empty
+cell-value (suc (suc zero)) value = cell.Item value
+cell-value (suc (suc (suc zero))) value = cell.Subnode value
+cell-value (suc (suc (suc (suc n)))) value = cell.Missing
+
+cell-answer : Refusal → Meaning → Cell
+cell-answer r (answered v) = cell-value (getD v 0 0) (getD v 1 0)
+cell-answer r (absent v) = cell.Absent
+cell-answer r (refused n place more) = cell.Refused r
+
+cell-told : (x : Cell) → Told Cell cellMeans cell-answer x
+unfolding cellMeans cell-answer refusalPart refusalMeans cell-value
+cell-told (cell.Number value) = record { refusal = nothing; told = refl; back = refl }
+cell-told cell.Empty = record { refusal = nothing; told = refl; back = refl }
+cell-told (cell.Item item) = record { refusal = nothing; told = refl; back = refl }
+cell-told (cell.Subnode subnode) = record { refusal = nothing; told = refl; back = refl }
+cell-told cell.Missing = record { refusal = nothing; told = refl; back = refl }
+cell-told cell.Absent = record { refusal = nothing; told = refl; back = refl }
+cell-told (cell.Refused r) = record { refusal = r; told = refl; back = refl }
+
+pub cell-injective : (x y : Cell) → cellMeans x ≡ cellMeans y → x ≡ y
+cell-injective = injective Cell cellMeans cell-answer cell-told
+
+row-answer : Refusal → Meaning → FoundRow
+row-answer r (answered v) = row.Row (getD v 0 0)
+row-answer r (absent v) = row.Absent
+row-answer r (refused n place more) = row.Refused r
+
+row-told : (x : FoundRow) → Told FoundRow rowMeans row-answer x
+unfolding rowMeans row-answer refusalPart refusalMeans
+row-told (row.Row n) = record { refusal = nothing; told = refl; back = refl }
+row-told row.Absent = record { refusal = nothing; told = refl; back = refl }
+row-told (row.Refused r) = record { refusal = r; told = refl; back = refl }
+
+pub row-injective : (x y : FoundRow) → rowMeans x ≡ rowMeans y → x ≡ y
+row-injective = injective FoundRow rowMeans row-answer row-told
+
+cells-answer : Refusal → Meaning → RowRead
+cells-answer r (answered v) = cells.Cells (getD v 0 0)
+cells-answer r (absent v) = cells.Absent
+cells-answer r (refused n place more) = cells.Refused r
+
+cells-told : (x : RowRead) → Told RowRead cellsMeans cells-answer x
+unfolding cellsMeans cells-answer refusalPart refusalMeans
+cells-told (cells.Cells n) = record { refusal = nothing; told = refl; back = refl }
+cells-told cells.Absent = record { refusal = nothing; told = refl; back = refl }
+cells-told (cells.Refused r) = record { refusal = r; told = refl; back = refl }
+
+pub cells-injective : (x y : RowRead) → cellsMeans x ≡ cellsMeans y → x ≡ y
+cells-injective = injective RowRead cellsMeans cells-answer cells-told

@@ -11,3 +11,4 @@ pub mod FirstRequest
 pub mod SecondRequest
 pub mod ThirdRequest
 pub mod FourthRequest
+pub mod FifthRequest

@@ -6,7 +6,7 @@ use contract.Lifetimes.{Lfts}
 use denote.Ref.{now}
 use denote.Triple.Clauses.{AtExit}
 use borrow.Fn.Kinds.{PK, RK, Out, Dens, resT, endedOf}
-use Rattle.pst.proofs.Injective.{verdict-injective, header-injective, node-injective, block-injective, sized-injective, data-injective, span-injective, property-injective}
+use Rattle.pst.proofs.Injective.{verdict-injective, header-injective, node-injective, block-injective, sized-injective, data-injective, span-injective, property-injective, table-injective, column-injective, count-injective, cell-injective, row-injective, cells-injective}
 use Rattle.pst.proofs.header.Reads as header
 use Rattle.pst.proofs.header.Kinds as header-kinds
 use Rattle.pst.proofs.check_nodes.Reads as check-nodes
@@ -43,6 +43,18 @@ use Rattle.pst.proofs.find_item.Reads as find-item
 use Rattle.pst.proofs.find_item.Kinds as find-item-kinds
 use Rattle.pst.proofs.find_property.Reads as find-property
 use Rattle.pst.proofs.find_property.Kinds as find-property-kinds
+use Rattle.pst.proofs.table.Reads as table
+use Rattle.pst.proofs.table.Kinds as table-kinds
+use Rattle.pst.proofs.column.Reads as column
+use Rattle.pst.proofs.column.Kinds as column-kinds
+use Rattle.pst.proofs.count_rows.Reads as count-rows
+use Rattle.pst.proofs.count_rows.Kinds as count-rows-kinds
+use Rattle.pst.proofs.cell.Reads as cell
+use Rattle.pst.proofs.cell.Kinds as cell-kinds
+use Rattle.pst.proofs.find_row.Reads as find-row
+use Rattle.pst.proofs.find_row.Kinds as find-row-kinds
+use Rattle.pst.proofs.read_row.Reads as read-row
+use Rattle.pst.proofs.read_row.Kinds as read-row-kinds
 use Rattle.pst.proofs.checksum.Reads as checksum
 use Rattle.pst.proofs.checksum.Kinds as checksum-kinds
 use Rattle.pst.proofs.signature.Reads as signature
@@ -115,6 +127,26 @@ find-item-single κs a x y s t p q = span-injective x y (p ∙ sym q)
 
 find-property-single : Single 1 find-property-kinds.ps find-property-kinds.r find-property.Post
 find-property-single κs a x y s t p q = property-injective x y (p ∙ sym q)
+
+table-single : Single 1 table-kinds.ps table-kinds.r table.Post
+table-single κs a x y s t p q = table-injective x y (p ∙ sym q)
+
+column-single : Single 1 column-kinds.ps column-kinds.r column.Post
+column-single κs a x y s t p q = column-injective x y (p ∙ sym q)
+
+count-rows-single : Single 1 count-rows-kinds.ps count-rows-kinds.r count-rows.Post
+count-rows-single κs a x y s t p q = count-injective x y (p ∙ sym q)
+
+cell-single : Single 1 cell-kinds.ps cell-kinds.r cell.Post
+cell-single κs a x y s t p q = cell-injective x y (p ∙ sym q)
+
+find-row-single : Single 1 find-row-kinds.ps find-row-kinds.r find-row.Post
+find-row-single κs a x y s t p q = row-injective x y (p ∙ sym q)
+
+-- every word of the area
+read-row-single : (κs : Lfts 2) (a : Dens κs read-row-kinds.ps) (x y : resT read-row-kinds.r κs .Denot) (s t : AtExit (endedOf 2 read-row-kinds.ps read-row-kinds.r) κs)
+    → read-row.Post κs a x s → read-row.Post κs a y t → (x ≡ y) × (now (s .1 .1 .1 .0) ≡ now (t .1 .1 .1 .0))
+read-row-single κs a x y s t p q = (cells-injective x y (p .0 ∙ sym (q .0)), p .1 ∙ sym (q .1))
 
 checksum-single : Single 1 checksum-kinds.ps checksum-kinds.r checksum.Post
 checksum-single κs a x y s t p q = p ∙ sym q

@@ -29,9 +29,21 @@ use Rattle.heap.specs.declared.Span.{Span}
 use Rattle.heap.specs.declared.Span.the-variants as span
 use Rattle.property.specs.declared.Property.{Property}
 use Rattle.property.specs.declared.Property.the-variants as property
-use Rattle.pst.specs.Meaning.{Meaning, refusalMeans, verdictMeans, headerMeans, nodeMeans, blockMeans, sizedMeans, dataMeans, spanMeans, propertyMeans}
+use Rattle.table.specs.declared.TableAnswer.{TableAnswer}
+use Rattle.table.specs.declared.TableAnswer.the-variants as table
+use Rattle.table.specs.declared.ColumnAnswer.{ColumnAnswer}
+use Rattle.table.specs.declared.ColumnAnswer.the-variants as column
+use Rattle.table.specs.declared.FoundRow.{FoundRow}
+use Rattle.table.specs.declared.FoundRow.the-variants as row
+use Rattle.cells.specs.declared.Counted.{Counted}
+use Rattle.cells.specs.declared.Counted.the-variants as count
+use Rattle.cells.specs.declared.Cell.{Cell}
+use Rattle.cells.specs.declared.Cell.the-variants as cell
+use Rattle.rowcells.specs.declared.RowRead.{RowRead}
+use Rattle.rowcells.specs.declared.RowRead.the-variants as cells
+use Rattle.pst.specs.Meaning.{Meaning, refusalMeans, verdictMeans, headerMeans, nodeMeans, blockMeans, sizedMeans, dataMeans, spanMeans, propertyMeans, tableMeans, columnMeans, countMeans, cellMeans, rowMeans, cellsMeans}
 use Rattle.pst.specs.Demands.{Told}
-use Rattle.pst.proofs.Injective.{verdict-injective, header-injective, node-injective, block-injective, sized-injective, data-injective, span-injective, property-injective}
+use Rattle.pst.proofs.Injective.{verdict-injective, header-injective, node-injective, block-injective, sized-injective, data-injective, span-injective, property-injective, table-injective, column-injective, count-injective, cell-injective, row-injective, cells-injective}
 
 -- answers of one kind, with the answer that is a refusal
 module _ {A : Type 0} (means : A → Meaning) (wrong : Refusal → A) (injective : (x y : A) → means x ≡ means y → x ≡ y) (says : (r : Refusal) → means (wrong r) ≡ refusalMeans r) where
@@ -162,3 +174,28 @@ span-told v start length rules tried =
 pub property-told : (x : Property) (rules : List Rule) → ((r : Refusal) → (x ≡ property.Refused r) ↔ FirstFault rules r) → Told propertyMeans rules (propertyMeans x)
 unfolding propertyMeans
 property-told x rules exactly = told-exactly propertyMeans property.Refused property-injective (λ r. refl) x rules exactly
+
+-- a table's answers, each by what its layer says of its refusals
+pub table-told : (x : TableAnswer) (rules : List Rule) → ((r : Refusal) → (x ≡ table.Refused r) ↔ FirstFault rules r) → Told tableMeans rules (tableMeans x)
+unfolding tableMeans
+table-told x rules exactly = told-exactly tableMeans table.Refused table-injective (λ r. refl) x rules exactly
+
+pub column-told : (x : ColumnAnswer) (rules : List Rule) → ((r : Refusal) → (x ≡ column.Refused r) ↔ FirstFault rules r) → Told columnMeans rules (columnMeans x)
+unfolding columnMeans
+column-told x rules exactly = told-exactly columnMeans column.Refused column-injective (λ r. refl) x rules exactly
+
+pub count-told : (x : Counted) (rules : List Rule) → ((r : Refusal) → (x ≡ count.Refused r) ↔ FirstFault rules r) → Told countMeans rules (countMeans x)
+unfolding countMeans
+count-told x rules exactly = told-exactly countMeans count.Refused count-injective (λ r. refl) x rules exactly
+
+pub cell-told : (x : Cell) (rules : List Rule) → ((r : Refusal) → (x ≡ cell.Refused r) ↔ FirstFault rules r) → Told cellMeans rules (cellMeans x)
+unfolding cellMeans
+cell-told x rules exactly = told-exactly cellMeans cell.Refused cell-injective (λ r. refl) x rules exactly
+
+pub row-told : (x : FoundRow) (rules : List Rule) → ((r : Refusal) → (x ≡ row.Refused r) ↔ FirstFault rules r) → Told rowMeans rules (rowMeans x)
+unfolding rowMeans
+row-told x rules exactly = told-exactly rowMeans row.Refused row-injective (λ r. refl) x rules exactly
+
+pub cells-told : (x : RowRead) (rules : List Rule) → ((r : Refusal) → (x ≡ cells.Refused r) ↔ FirstFault rules r) → Told cellsMeans rules (cellsMeans x)
+unfolding cellsMeans
+cells-told x rules exactly = told-exactly cellsMeans cells.Refused cells-injective (λ r. refl) x rules exactly

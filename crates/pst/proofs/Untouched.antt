@@ -25,8 +25,12 @@ use Rattle.block.specs.Block.{checkedBlock, blockBytes, fitting, readIn, readOf
 use Rattle.node.specs.Content.{Content, nodeContent, answerTo, filledBy}
 use Rattle.node.specs.Content as content
 use Rattle.node.specs.declared.NodeRead.the-variants as read
-use Rattle.pst.specs.Meaning.{refuses, verdictMeans, sizedMeans, dataMeans}
-use Rattle.pst.specs.Outcomes.{listOutcome, listArea, readOutcome, readBuffer, dataOutcome, dataBuffer, codeOutcome, encodeBuffer, decodeBuffer}
+use Rattle.rowcells.specs.declared.RowRead.{RowRead}
+use Rattle.rowcells.specs.declared.RowRead.the-variants as cells
+use Rattle.rowcells.specs.RowCells.{rowRead, rowArea}
+use Rattle.rowcells.proofs.ReadLaws.{left-alone}
+use Rattle.pst.specs.Meaning.{refuses, verdictMeans, sizedMeans, dataMeans, cellsMeans}
+use Rattle.pst.specs.Outcomes.{listOutcome, listArea, readOutcome, readBuffer, dataOutcome, dataBuffer, readRowOutcome, readRowArea, codeOutcome, encodeBuffer, decodeBuffer}
 
 checked-untouched : (image : List ℕ) (c : Checked) (out : List ℕ) → refuses (sizedMeans (readIn c (length out))) ≡ true → filledIn image c out ≡ out
 unfolding refuses sizedMeans readIn fitting filledIn
@@ -63,6 +67,15 @@ list-untouched image nodes area = by (listFits (length nodes) (length area)) ref
     by : (v : Verdict) → listFits (length nodes) (length area) ≡ v → refuses (verdictMeans v) ≡ true → areaOf image nodes area ≡ area
     by Accepted q h = not-both false h refl
     by (Refused r) q h = sym (area-left image nodes area r (sym q))
+
+pub row-untouched : (block rows : List ℕ) (row : ℕ) (area : List ℕ) → refuses (readRowOutcome block rows row area) ≡ true → readRowArea block rows row area ≡ area
+unfolding readRowOutcome readRowArea refuses cellsMeans
+row-untouched block rows row area = by (rowRead block rows row (length area)) refl
+  where
+    by : (x : RowRead) → rowRead block rows row (length area) ≡ x → refuses (cellsMeans x) ≡ true → rowArea block rows row area ≡ area
+    by (cells.Cells n) q h = not-both false h refl
+    by cells.Absent q h = not-both false h refl
+    by (cells.Refused r) q h = left-alone block rows area row (cells.Refused r) q (λ n e. let clash : _≡_ {A = ℕ} 0 1 = cc in omega arith)
 
 over-two : (method : ℕ) → refuses (codeOutcome method) ≡ true → 2 < method
 unfolding refuses codeOutcome verdictMeans methodFits demand

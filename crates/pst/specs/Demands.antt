@@ -1,7 +1,7 @@
 -- The user's three demands, of the outcomes of the public calls alone; and what the requests of 02 add to them, of those outcomes and of pages. Assumes nothing: these are definitions.
 --
 -- The contract of a call says: what the answer means is the outcome that pst/specs/Outcomes names, and each buffer at exit is the one named there. What holds of every
--- outcome so holds of every call. Proved in pst/proofs/FirstDemand, SecondDemand, ThirdDemand, FirstRequest, SecondRequest, ThirdRequest and FourthRequest.
+-- outcome so holds of every call. Proved in pst/proofs/FirstDemand, SecondDemand, ThirdDemand, FirstRequest, SecondRequest, ThirdRequest, FourthRequest and FifthRequest.
 use Prim.Native.Nat.{ℕ, _+_, _*_, _/_, _%_, _^_, _≤_, _<_}
 use mathlib.Core.Path.{_≡_}
 use mathlib.Core.Bool.{true, false}
@@ -59,8 +59,22 @@ use Rattle.heaptree.specs.Sound.{BranchSound}
 use Rattle.property.specs.Context.{properties, Context, contextRules}
 use Rattle.property.specs.Lookup.{propertyFrom, propertyRules}
 use Rattle.property.specs.Scan.{PropertiesSound, idOf, propertyRecords}
-use Rattle.pst.specs.Meaning.{Meaning, answered, absent, refused, refuses, refusalMeans, verdictMeans, headerMeans, nodeMeans, blockMeans, sizedMeans, dataMeans, spanMeans, propertyMeans}
-use Rattle.pst.specs.Outcomes.{headerOutcome, nodesOutcome, blocksOutcome, nodeOutcome, listOutcome, listArea, blockOutcome, nextNodeOutcome, nextBlockOutcome, testOutcome, readOutcome, readBuffer, dataOutcome, dataBuffer, codeOutcome, encodeBuffer, decodeBuffer, heapOutcome, testItemOutcome, itemOutcome, spanOutcome, propertyOutcome, checksumOutcome}
+use Rattle.columns.specs.declared.Column.{Column}
+use Rattle.columns.specs.Record.{columnCount}
+use Rattle.columns.specs.Columns.{columnAt, tags}
+use Rattle.columns.specs.Sound.{Apart}
+use Rattle.table.specs.declared.TableAnswer.the-variants as table
+use Rattle.table.specs.declared.ColumnAnswer.the-variants as column
+use Rattle.table.specs.Context.{tableRecord, tableRules, TableSound}
+use Rattle.table.specs.Says.{tableIn}
+use Rattle.table.specs.RowIndex.{rowRules, rowFrom, IndexSound, rowId, rowRecords}
+use Rattle.cells.specs.declared.Cell.{Cell}
+use Rattle.cells.specs.Rows.{Held, rowsNamed, rowBytes, rowsRules, rowCount, rowAt}
+use Rattle.cells.specs.Cells.{cellAt, cellIn}
+use Rattle.cells.specs.Tried.{cellRules}
+use Rattle.rowcells.specs.RowCells.{cellWords, readRowRules}
+use Rattle.pst.specs.Meaning.{Meaning, answered, absent, refused, refuses, refusalMeans, verdictMeans, headerMeans, nodeMeans, blockMeans, sizedMeans, dataMeans, spanMeans, propertyMeans, tableMeans, columnMeans, countMeans, cellMeans, rowMeans, cellsMeans}
+use Rattle.pst.specs.Outcomes.{headerOutcome, nodesOutcome, blocksOutcome, nodeOutcome, listOutcome, listArea, blockOutcome, nextNodeOutcome, nextBlockOutcome, testOutcome, readOutcome, readBuffer, dataOutcome, dataBuffer, codeOutcome, encodeBuffer, decodeBuffer, heapOutcome, testItemOutcome, itemOutcome, spanOutcome, propertyOutcome, tableOutcome, columnOutcome, countOutcome, cellOutcome, rowOutcome, readRowOutcome, readRowArea, checksumOutcome}
 
 -- Demand 1 of one call: its answers, by what they mean; the rules that it tries, in their order; its outcome
 pub record Told {A : Type 0} (means : A → Meaning) (rules : List Rule) (outcome : Meaning) : Type 0 where
@@ -94,11 +108,18 @@ pub record FirstDemand : Type 0 where
   pub test-item : (block : List ℕ) (item : ℕ) → Told verdictMeans (itemRules block item) (testItemOutcome block item)
   pub find-item : (block : List ℕ) (item : ℕ) → Told spanMeans (itemRules block item) (spanOutcome block item)
   pub find-property : (block : List ℕ) (id : ℕ) → Told propertyMeans (propertyRules block id) (propertyOutcome block id)
+  pub table : (block : List ℕ) → Told tableMeans (tableRules block) (tableOutcome block)
+  pub column : (block : List ℕ) (index : ℕ) → Told columnMeans (tableRules block) (columnOutcome block index)
+  pub count-rows : (block rows : List ℕ) → Told countMeans (rowsRules block rows) (countOutcome block rows)
+  pub cell : (block rows : List ℕ) (row tag : ℕ) → Told cellMeans (cellRules block rows row tag) (cellOutcome block rows row tag)
+  pub find-row : (block : List ℕ) (id : ℕ) → Told rowMeans (rowRules block id) (rowOutcome block id)
+  pub read-row : (block rows : List ℕ) (row : ℕ) (area : List ℕ) → Told cellsMeans (readRowRules block rows row (length area)) (readRowOutcome block rows row area)
   pub find-nodes-leaves : (image nodes area : List ℕ) → Untouched (listOutcome nodes area) area (listArea image nodes area)
   pub read-block-leaves : (image : List ℕ) (block : ℕ) (out : List ℕ) → Untouched (readOutcome image block out) out (readBuffer image block out)
   pub read-node-leaves : (image : List ℕ) (node : ℕ) (out : List ℕ) → Untouched (dataOutcome image node out) out (dataBuffer image node out)
   pub encode-leaves : (method block : ℕ) (bytes : List ℕ) → Untouched (codeOutcome method) bytes (encodeBuffer method block bytes)
   pub decode-leaves : (method block : ℕ) (bytes : List ℕ) → Untouched (codeOutcome method) bytes (decodeBuffer method block bytes)
+  pub read-row-leaves : (block rows : List ℕ) (row : ℕ) (area : List ℕ) → Untouched (readRowOutcome block rows row area) area (readRowArea block rows row area)
 
 -- a block that the block tree lists under this number, and whose rules hold
 pub record SoundBlock (image : List ℕ) (number : ℕ) (listed : Listed) : Type 0 where
@@ -257,6 +278,50 @@ pub record FourthRequest : Type 0 where
       → bits 64 x
       ≡ bitXor (tableEntry 7 (x % 256)) (bitXor (tableEntry 6 (x / 256 % 256)) (bitXor (tableEntry 5 (x / 65536 % 256)) (bitXor (tableEntry 4 (x / 16777216 % 256))
       (bitXor (tableEntry 3 (x / 4294967296 % 256)) (bitXor (tableEntry 2 (x / 1099511627776 % 256)) (bitXor (tableEntry 1 (x / 281474976710656 % 256)) (tableEntry 0 (x / 72057594037927936 % 256))))))))
+
+-- 5/13, "Folder tables". The six words of the i-th place of an area
+abbrev pub cellPlaceIn : List ℕ → ℕ → List ℕ
+cellPlaceIn area i = part area (6 * i) 6
+
+-- a sound table whose rows are held somewhere, and a row of it
+pub record RowThere (block rows : List ℕ) (row : ℕ) : Type 0 where
+  pub table : TableSound block
+  pub held : Held block rows (rowsNamed block)
+  pub there : row < rowCount (tableRecord block) (rowBytes block rows)
+
+pub record FifthRequest : Type 0 where
+  -- a table is accepted exactly when each rule holds, of each column and of any two, and what is handed out stands in its record
+  pub accepted : (block : List ℕ) → (tableOutcome block ≡ tableMeans (table.Says (tableIn (tableRecord block)))) ↔ TableSound block
+  pub column-found : (block : List ℕ) (i : ℕ) → TableSound block → i < columnCount (tableRecord block) → columnOutcome block i ≡ columnMeans (column.Found (columnAt (tableRecord block) i))
+  pub column-absent : (block : List ℕ) (i : ℕ) → TableSound block → columnCount (tableRecord block) ≤ i → columnOutcome block i ≡ absent []
+  -- "no two may share a tag, a byte or an existence bit": of any two columns that are handed out
+  pub columns-apart : (block : List ℕ) (i j : ℕ) (one other : Column) → (i ≡ j → ⊥)
+      → columnOutcome block i ≡ columnMeans (column.Found one) → columnOutcome block j ≡ columnMeans (column.Found other) → Apart one other
+  -- "There are as many rows as whole rows fit the rows' bytes", where the table is sound and its rows are held somewhere
+  pub rows-counted : (block rows : List ℕ) → (countOutcome block rows ≡ answered (rowCount (tableRecord block) (rowBytes block rows) ∷ [])) ↔ (TableSound block × Held block rows (rowsNamed block))
+  -- "Row numbers past the end and unknown tags are absent"; a column's cell is what its row's bytes say, by its own tag
+  pub past-the-end : (block rows : List ℕ) (row tag : ℕ) → TableSound block → Held block rows (rowsNamed block) → rowCount (tableRecord block) (rowBytes block rows) ≤ row → cellOutcome block rows row tag ≡ absent []
+  pub unknown-tag : (block rows : List ℕ) (row tag : ℕ) → RowThere block rows row → Missing tag (tags (tableRecord block)) → cellOutcome block rows row tag ≡ absent []
+  pub known-tag : (block rows : List ℕ) (row i : ℕ) → RowThere block rows row → i < columnCount (tableRecord block)
+      → cellOutcome block rows row ((columnAt (tableRecord block) i) .tag) ≡ cellMeans (cellAt block (tableRecord block) (rowAt (tableRecord block) (rowBytes block rows) row) (columnAt (tableRecord block) i))
+  pub cell-answered : (block rows : List ℕ) (row tag : ℕ) → (refuses (cellOutcome block rows row tag) ≡ false) ↔ AllHold (cellRules block rows row tag)
+  -- it depends on no byte of the rows outside its row: of a rows' block, and of rows in any bytes, an item's too
+  pub in-its-row : (block one other : List ℕ) (row tag : ℕ) → length one ≡ length other → rowAt (tableRecord block) one row ≡ rowAt (tableRecord block) other row
+      → cellOutcome block one row tag ≡ cellOutcome block other row tag
+  pub in-any-row : (block table one other : List ℕ) (row tag : ℕ) → length one ≡ length other → rowAt table one row ≡ rowAt table other row
+      → cellIn block table one row tag ≡ cellIn block table other row tag
+  -- the row index: answered, or absent, exactly when each rule that is tried holds; in a sound one as the plain scan of all its leaf records
+  pub row-answered : (block : List ℕ) (id : ℕ) → (refuses (rowOutcome block id) ≡ false) ↔ AllHold (rowRules block id)
+  pub row-scanned : (block : List ℕ) (id : ℕ) → IndexSound block → rowOutcome block id ≡ rowMeans (rowFrom block (answer (withKey (rowId block) id (rowRecords block)) 0))
+  pub row-ascending : (block : List ℕ) → IndexSound block → Ascending (map (rowId block) (rowRecords block))
+  pub row-absent-iff : (block : List ℕ) (id : ℕ) → IndexSound block → (rowOutcome block id ≡ absent []) ↔ Missing id (map (rowId block) (rowRecords block))
+  -- all cells of a row in one call: as many as there are columns; each place has the words of what the call for that cell answers, and of no other answer; what lies behind stays, and all where the row is absent
+  pub cells-counted : (block rows : List ℕ) (row n : ℕ) (area : List ℕ) → readRowOutcome block rows row area ≡ answered (n ∷ []) → n ≡ columnCount (tableRecord block)
+  pub cell-places : (block rows : List ℕ) (row n : ℕ) (area : List ℕ) (i : ℕ) (given : Cell) → readRowOutcome block rows row area ≡ answered (n ∷ []) → i < n
+      → (cellPlaceIn (readRowArea block rows row area) i ≡ cellWords given) ↔ (cellMeans given ≡ cellOutcome block rows row ((columnAt (tableRecord block) i) .tag))
+  pub past-the-places : (block rows : List ℕ) (row n : ℕ) (area : List ℕ) → readRowOutcome block rows row area ≡ answered (n ∷ []) → drop (6 * n) (readRowArea block rows row area) ≡ drop (6 * n) area
+  pub same-length : (block rows : List ℕ) (row n : ℕ) (area : List ℕ) → readRowOutcome block rows row area ≡ answered (n ∷ []) → length (readRowArea block rows row area) ≡ length area
+  pub absent-leaves : (block rows : List ℕ) (row : ℕ) (area : List ℕ) → readRowOutcome block rows row area ≡ absent [] → readRowArea block rows row area ≡ area
 
 -- Beyond the demands: the listings of one tree. The entry or absent, with some count
 pub record FirstFrom (says : Answer (List ℕ) → Meaning) (outcome : Meaning) (entry : Option (List ℕ)) : Type 0 where

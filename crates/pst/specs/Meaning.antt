@@ -20,6 +20,20 @@ use Rattle.heap.specs.declared.Span.{Span}
 use Rattle.heap.specs.declared.Span.the-variants as span
 use Rattle.property.specs.declared.Property.{Property}
 use Rattle.property.specs.declared.Property.the-variants as property
+use Rattle.table.specs.declared.Named.{Named}
+use Rattle.table.specs.declared.Named.the-variants as named
+use Rattle.table.specs.declared.TableAnswer.{TableAnswer}
+use Rattle.table.specs.declared.TableAnswer.the-variants as table
+use Rattle.table.specs.declared.ColumnAnswer.{ColumnAnswer}
+use Rattle.table.specs.declared.ColumnAnswer.the-variants as column
+use Rattle.table.specs.declared.FoundRow.{FoundRow}
+use Rattle.table.specs.declared.FoundRow.the-variants as row
+use Rattle.cells.specs.declared.Counted.{Counted}
+use Rattle.cells.specs.declared.Counted.the-variants as count
+use Rattle.cells.specs.declared.Cell.{Cell}
+use Rattle.cells.specs.declared.Cell.the-variants as cell
+use Rattle.rowcells.specs.declared.RowRead.{RowRead}
+use Rattle.rowcells.specs.declared.RowRead.the-variants as cells
 
 -- what an answer says, in document 01's numbers
 pub data Meaning : Type 0 where
@@ -86,3 +100,52 @@ propertyMeans (property.Item type item) = answered (type ∷ 2 ∷ item ∷ [])
 propertyMeans (property.Subnode type subnode) = answered (type ∷ 3 ∷ subnode ∷ [])
 propertyMeans property.Absent = absent []
 propertyMeans (property.Refused r) = refusalMeans r
+
+-- what holds a table's rows: 1 for none, 2 with an item's number, 3 with a subnode's
+unfoldable pub kindOf : Named → ℕ
+kindOf named.Nothing = 1
+kindOf (named.Item item) = 2
+kindOf (named.Subnode subnode) = 3
+
+unfoldable pub numberOf : Named → ℕ
+numberOf named.Nothing = 0
+numberOf (named.Item item) = item
+numberOf (named.Subnode subnode) = subnode
+
+-- columns, size of a row, start of its existence bytes; what holds the rows, and its number
+unfoldable pub tableMeans : TableAnswer → Meaning
+tableMeans (table.Says t) = answered (t .columns ∷ t .size ∷ t .existence ∷ kindOf (t .rows) ∷ numberOf (t .rows) ∷ [])
+tableMeans (table.Refused r) = refusalMeans r
+
+-- tag, offset, width, bit
+unfoldable pub columnMeans : ColumnAnswer → Meaning
+columnMeans (column.Found c) = answered (c .tag ∷ c .offset ∷ c .width ∷ c .bit ∷ [])
+columnMeans column.Absent = absent []
+columnMeans (column.Refused r) = refusalMeans r
+
+-- number of rows
+unfoldable pub countMeans : Counted → Meaning
+countMeans (count.Rows n) = answered (n ∷ [])
+countMeans (count.Refused r) = refusalMeans r
+
+-- 0 with a number, 1 for an empty value, 2 with an item's number, 3 with a subnode's, 4 for a missing cell
+unfoldable pub cellMeans : Cell → Meaning
+cellMeans (cell.Number value) = answered (0 ∷ value ∷ [])
+cellMeans cell.Empty = answered (1 ∷ [])
+cellMeans (cell.Item item) = answered (2 ∷ item ∷ [])
+cellMeans (cell.Subnode subnode) = answered (3 ∷ subnode ∷ [])
+cellMeans cell.Missing = answered (4 ∷ [])
+cellMeans cell.Absent = absent []
+cellMeans (cell.Refused r) = refusalMeans r
+
+-- row number
+unfoldable pub rowMeans : FoundRow → Meaning
+rowMeans (row.Row n) = answered (n ∷ [])
+rowMeans row.Absent = absent []
+rowMeans (row.Refused r) = refusalMeans r
+
+-- number of cells
+unfoldable pub cellsMeans : RowRead → Meaning
+cellsMeans (cells.Cells n) = answered (n ∷ [])
+cellsMeans cells.Absent = absent []
+cellsMeans (cells.Refused r) = refusalMeans r

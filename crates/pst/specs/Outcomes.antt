@@ -15,7 +15,12 @@ use Rattle.node.specs.Content.{nodeContent, answerTo, filledBy}
 use Rattle.heap.specs.Shape.{heapTest}
 use Rattle.heap.specs.Items.{itemTest, itemOr, itemSpan}
 use Rattle.property.specs.Lookup.{property}
-use Rattle.pst.specs.Meaning.{Meaning, verdictMeans, headerMeans, nodeMeans, blockMeans, sizedMeans, dataMeans, spanMeans, propertyMeans}
+use Rattle.table.specs.Says.{tableOf, columnOf}
+use Rattle.table.specs.RowIndex.{rowOf}
+use Rattle.cells.specs.Rows.{countOf}
+use Rattle.cells.specs.Cells.{cellOf}
+use Rattle.rowcells.specs.RowCells.{rowRead, rowArea}
+use Rattle.pst.specs.Meaning.{Meaning, verdictMeans, headerMeans, nodeMeans, blockMeans, sizedMeans, dataMeans, spanMeans, propertyMeans, tableMeans, columnMeans, countMeans, cellMeans, rowMeans, cellsMeans}
 
 unfoldable pub headerOutcome : List ℕ → Meaning
 headerOutcome image = headerMeans (headerOf image)
@@ -92,6 +97,29 @@ spanOutcome block item = spanMeans (itemSpan block item)
 
 unfoldable pub propertyOutcome : List ℕ → ℕ → Meaning
 propertyOutcome block id = propertyMeans (property block id)
+
+-- folder tables, document 02, 5/13; the rows' block is looked at only where the rows lie in a subnode
+unfoldable pub tableOutcome : List ℕ → Meaning
+tableOutcome block = tableMeans (tableOf block)
+
+unfoldable pub columnOutcome : List ℕ → ℕ → Meaning
+columnOutcome block index = columnMeans (columnOf block index)
+
+unfoldable pub countOutcome : List ℕ → List ℕ → Meaning
+countOutcome block rows = countMeans (countOf block rows)
+
+unfoldable pub cellOutcome : List ℕ → List ℕ → ℕ → ℕ → Meaning
+cellOutcome block rows row tag = cellMeans (cellOf block rows row tag)
+
+unfoldable pub rowOutcome : List ℕ → ℕ → Meaning
+rowOutcome block id = rowMeans (rowOf block id)
+
+-- all cells of a row, which goes beyond document 02; and the area
+unfoldable pub readRowOutcome : List ℕ → List ℕ → ℕ → List ℕ → Meaning
+readRowOutcome block rows row area = cellsMeans (rowRead block rows row (length area))
+
+unfoldable pub readRowArea : List ℕ → List ℕ → ℕ → List ℕ → List ℕ
+readRowArea block rows row area = rowArea block rows row area
 
 unfoldable pub checksumOutcome : List ℕ → ℕ
 checksumOutcome bytes = checksum bytes

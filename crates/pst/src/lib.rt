@@ -1,15 +1,21 @@
 // The public calls. None asks for anything beforehand: any bytes and any numbers may be given.
 use block::Sized;
+use cells::Cell;
+use cells::Counted;
 use header::HeaderAnswer;
 use heap::Span;
 use node::NodeRead;
 use property::Property;
 use refusal::Verdict;
+use rowcells::RowRead;
+use table::ColumnAnswer;
+use table::FoundRow;
+use table::TableAnswer;
 use tree::FoundBlock;
 use tree::FoundNode;
 ghost use mathlib.Core.Path.{_≡_};
-ghost use Rattle.pst.specs.Meaning.{verdictMeans, headerMeans, nodeMeans, blockMeans, sizedMeans, dataMeans, spanMeans, propertyMeans};
-ghost use Rattle.pst.specs.Outcomes.{headerOutcome, nodesOutcome, blocksOutcome, nodeOutcome, listOutcome, listArea, blockOutcome, nextNodeOutcome, nextBlockOutcome, testOutcome, readOutcome, readBuffer, dataOutcome, dataBuffer, codeOutcome, encodeBuffer, decodeBuffer, heapOutcome, testItemOutcome, itemOutcome, spanOutcome, propertyOutcome, checksumOutcome, signatureOutcome, roomOutcome};
+ghost use Rattle.pst.specs.Meaning.{verdictMeans, headerMeans, nodeMeans, blockMeans, sizedMeans, dataMeans, spanMeans, propertyMeans, tableMeans, columnMeans, countMeans, cellMeans, rowMeans, cellsMeans};
+ghost use Rattle.pst.specs.Outcomes.{headerOutcome, nodesOutcome, blocksOutcome, nodeOutcome, listOutcome, listArea, blockOutcome, nextNodeOutcome, nextBlockOutcome, testOutcome, readOutcome, readBuffer, dataOutcome, dataBuffer, codeOutcome, encodeBuffer, decodeBuffer, heapOutcome, testItemOutcome, itemOutcome, spanOutcome, propertyOutcome, tableOutcome, columnOutcome, countOutcome, cellOutcome, rowOutcome, readRowOutcome, readRowArea, checksumOutcome, signatureOutcome, roomOutcome};
 
 // What the header says.
 pub fn header(image: &[u8]) -> HeaderAnswer
@@ -140,6 +146,49 @@ pub fn find_property(block: &[u8], id: u16) -> Property
     ensures { λ r. ⌜ propertyMeans r ≡ propertyOutcome (now (block .entry)) id ⌝ }
 {
     property::find_property(block, id)
+}
+
+// What the record of a table on the heap says, after the tests of the table and its columns.
+pub fn table(block: &[u8]) -> TableAnswer
+    ensures { λ r. ⌜ tableMeans r ≡ tableOutcome (now (block .entry)) ⌝ }
+{
+    table::table_of(block)
+}
+
+// A column of the table by its index, from 0.
+pub fn column(block: &[u8], index: u32) -> ColumnAnswer
+    ensures { λ r. ⌜ columnMeans r ≡ columnOutcome (now (block .entry)) index ⌝ }
+{
+    table::column_of(block, index)
+}
+
+// How many rows the table has. `rows` is the block of the rows where they lie in a subnode.
+pub fn count_rows<'a>(block: &'a [u8], rows: &'a [u8]) -> Counted
+    ensures { λ r. ⌜ countMeans r ≡ countOutcome (now (block .entry)) (now (rows .entry)) ⌝ }
+{
+    cells::count_rows(block, rows)
+}
+
+// The cell of a row in the column with the tag.
+pub fn cell<'a>(block: &'a [u8], rows: &'a [u8], row: u32, tag: u32) -> Cell
+    ensures { λ r. ⌜ cellMeans r ≡ cellOutcome (now (block .entry)) (now (rows .entry)) row tag ⌝ }
+{
+    cells::cell_of(block, rows, row, tag)
+}
+
+// The number of the row with the id, from the row index of the table.
+pub fn find_row(block: &[u8], id: u32) -> FoundRow
+    ensures { λ r. ⌜ rowMeans r ≡ rowOutcome (now (block .entry)) id ⌝ }
+{
+    table::find_row(block, id)
+}
+
+// All cells of a row, each as by `cell`; of each answer the six words go into its place.
+pub fn read_row<'a>(block: &'a [u8], rows: &'a [u8], row: u32, places: &mut [u64]) -> RowRead
+    ensures answer { λ r. ⌜ cellsMeans r ≡ readRowOutcome (now (block .entry)) (now (rows .entry)) row (now (places .entry)) ⌝ }
+    ensures area { λ _. ⌜ now (places .exit) ≡ readRowArea (now (block .entry)) (now (rows .entry)) row (now (places .entry)) ⌝ }
+{
+    rowcells::read_row(block, rows, row, places)
 }
 
 pub fn checksum(bytes: &[u8]) -> u32

@@ -27,7 +27,7 @@ use Rattle.cells.specs.Rows.{rowBytes, rowsRules, rowsTest, rowCount}
 use Rattle.cells.proofs.HeldLaws.{rows-exactly}
 use Rattle.rowcells.specs.declared.RowRead.{RowRead}
 use Rattle.rowcells.specs.declared.RowRead.the-variants.{Cells, Absent, Refused}
-use Rattle.rowcells.specs.RowCells.{areaRules, placeOf, placesOf, columns, isThere, readRules, rowRead, rowArea}
+use Rattle.rowcells.specs.RowCells.{areaRules, placeOf, placesOf, columns, isThere, readRowRules, rowRead, rowArea}
 use Rattle.rowcells.proofs.Words.{place-length}
 
 -- the area's rule
@@ -115,19 +115,19 @@ module _ (block rows : List ℕ) (row words : ℕ) where
       sym (refusal-after (inOrder (areaRules (columns block rows row) words)) (Cells (columns block rows row)) ∙ then-accepted (inOrder (areaRules (columns block rows row) words)))
   inside-tried false = refl
 
-  read-tried : inOrder (readRules block rows row words) ≡ refusalIn (rowRead block rows row words)
-  unfolding readRules rowRead rowsTest inside
+  read-tried : inOrder (readRowRules block rows row words) ≡ refusalIn (rowRead block rows row words)
+  unfolding readRowRules rowRead rowsTest inside
   read-tried =
       in-order-append (rowsRules block rows) (cond (isThere block rows row) (areaRules (columns block rows row) words) [])
       ∙ ap (λ (v : Verdict). inOrder (rowsRules block rows) then v) (inside-tried (isThere block rows row))
       ∙ sym (refusal-after (inOrder (rowsRules block rows)) (inside (isThere block rows row)))
 
   -- refused exactly with the first fault
-  pub read-refused-exactly : (r : Refusal) → (rowRead block rows row words ≡ Refused r) ↔ FirstFault (readRules block rows row words) r
+  pub read-refused-exactly : (r : Refusal) → (rowRead block rows row words ≡ Refused r) ↔ FirstFault (readRowRules block rows row words) r
   unfolding refusalIn
   read-refused-exactly r = (
-    (λ e. refused-exactly (readRules block rows row words) r .0 (read-tried ∙ ap refusalIn e)),
-    (λ f. refusal-is (rowRead block rows row words) r (sym read-tried ∙ refused-exactly (readRules block rows row words) r .1 f)),
+    (λ e. refused-exactly (readRowRules block rows row words) r .0 (read-tried ∙ ap refusalIn e)),
+    (λ f. refusal-is (rowRead block rows row words) r (sym read-tried ∙ refused-exactly (readRowRules block rows row words) r .1 f)),
   )
 
 -- what holds where so many cells are answered for an area of so many words

@@ -49,8 +49,8 @@ module _ (block rows : List ℕ) (row : ℕ) where
   isThere = leb (row + 1) (rowCount (tableRecord block) (rowBytes block rows))
 
   -- all rules that are tried: those of a cell before its row number, then that of the area
-  unfoldable pub readRules : ℕ → List Rule
-  readRules words = rowsRules block rows ++ cond isThere (areaRules columns words) []
+  unfoldable pub readRowRules : ℕ → List Rule
+  readRowRules words = rowsRules block rows ++ cond isThere (areaRules columns words) []
 
   -- a row number past the end is absent
   unfoldable pub rowRead : ℕ → RowRead

@@ -1,3 +1,4 @@
 pub mod ContextLaws
 pub mod IndexLaws
 pub mod RowLaws
+pub mod SaidLaws
