@@ -39,6 +39,18 @@ use Rattle.rkw.proofs.rkw_item.Reads as item
 use Rattle.rkw.proofs.rkw_item.Kinds as item-kinds
 use Rattle.rkw.proofs.rkw_find_property.Reads as find-property
 use Rattle.rkw.proofs.rkw_find_property.Kinds as find-property-kinds
+use Rattle.rkw.proofs.rkw_table.Reads as table
+use Rattle.rkw.proofs.rkw_table.Kinds as table-kinds
+use Rattle.rkw.proofs.rkw_column.Reads as column
+use Rattle.rkw.proofs.rkw_column.Kinds as column-kinds
+use Rattle.rkw.proofs.rkw_count_rows.Reads as count-rows
+use Rattle.rkw.proofs.rkw_count_rows.Kinds as count-rows-kinds
+use Rattle.rkw.proofs.rkw_cell.Reads as cell
+use Rattle.rkw.proofs.rkw_cell.Kinds as cell-kinds
+use Rattle.rkw.proofs.rkw_find_row.Reads as find-row
+use Rattle.rkw.proofs.rkw_find_row.Kinds as find-row-kinds
+use Rattle.rkw.proofs.rkw_read_row.Reads as read-row
+use Rattle.rkw.proofs.rkw_read_row.Kinds as read-row-kinds
 use Rattle.rkw.proofs.rkw_checksum.Reads as checksum
 use Rattle.rkw.proofs.rkw_checksum.Kinds as checksum-kinds
 use Rattle.rkw.proofs.rkw_signature.Reads as signature
@@ -101,6 +113,25 @@ item-single κs a x y s t p q = p ∙ sym q
 
 find-property-single : Single 1 find-property-kinds.ps find-property-kinds.r find-property.Post
 find-property-single κs a x y s t p q = p ∙ sym q
+
+table-single : Single 1 table-kinds.ps table-kinds.r table.Post
+table-single κs a x y s t p q = p ∙ sym q
+
+column-single : Single 1 column-kinds.ps column-kinds.r column.Post
+column-single κs a x y s t p q = p ∙ sym q
+
+count-rows-single : Single 1 count-rows-kinds.ps count-rows-kinds.r count-rows.Post
+count-rows-single κs a x y s t p q = p ∙ sym q
+
+cell-single : Single 1 cell-kinds.ps cell-kinds.r cell.Post
+cell-single κs a x y s t p q = p ∙ sym q
+
+find-row-single : Single 1 find-row-kinds.ps find-row-kinds.r find-row.Post
+find-row-single κs a x y s t p q = p ∙ sym q
+
+read-row-single : (κs : Lfts 2) (a : Dens κs read-row-kinds.ps) (x y : resT read-row-kinds.r κs .Denot) (s t : AtExit (endedOf 2 read-row-kinds.ps read-row-kinds.r) κs)
+    → read-row.Post κs a x s → read-row.Post κs a y t → (x ≡ y) × (now (s .1 .1 .1 .0) ≡ now (t .1 .1 .1 .0))
+read-row-single κs a x y s t p q = (p .0 ∙ sym (q .0), p .1 ∙ sym (q .1))
 
 checksum-single : Single 1 checksum-kinds.ps checksum-kinds.r checksum.Post
 checksum-single κs a x y s t p q = p ∙ sym q

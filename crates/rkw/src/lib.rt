@@ -1,11 +1,18 @@
 // The public calls for C and other hosts, as include/rekwonuda.h documents them.
 use block::Sized;
+use cells::Cell;
+use cells::Counted;
 use header::HeaderAnswer;
 use heap::Span;
 use node::NodeRead;
 use property::Property;
 use refusal::Refusal;
 use refusal::Verdict;
+use rowcells::RowRead;
+use table::ColumnAnswer;
+use table::FoundRow;
+use table::Named;
+use table::TableAnswer;
 use tree::FoundBlock;
 use tree::FoundNode;
 ghost use mathlib.Core.Path.{_≡_};
@@ -24,6 +31,13 @@ ghost use Rattle.node.specs.Content.{nodeContent, answerTo, filledBy};
 ghost use Rattle.heap.specs.Shape.{heapTest};
 ghost use Rattle.heap.specs.Items.{itemTest, itemSpan};
 ghost use Rattle.property.specs.Lookup.{property as propertyIn};
+ghost use Rattle.table.specs.Says.{tableOf, columnOf};
+ghost use Rattle.table.specs.RowIndex.{rowOf};
+ghost use Rattle.cells.specs.Rows.{countOf};
+ghost use Rattle.cells.specs.Cells.{cellOf};
+ghost use Rattle.rowcells.specs.RowCells.{rowRead, rowArea};
+ghost use Rattle.pst.specs.Meaning.{kindOf, numberOf};
+ghost use Rattle.rkw.specs.Tables.{tableAnswer, noTable, columnAnswer, noColumn, countAnswer, cellAnswer, valuedCell, noCell, rowAnswer, cellsAnswer};
 ghost use Rattle.rkw.specs.Answers.{verdictAnswer, headerAnswer, nodeAnswer, blockAnswer, sizeAnswer, lengthAnswer, dataAnswer, itemAnswer, propertyAnswer, noNode, noBlock, valuedOf, noProperty};
 
 #[repr(C)]
@@ -115,6 +129,66 @@ pub struct RkwProperty {
     pub code: u64,
     pub kind: u64,
     pub value: u64,
+}
+
+#[repr(C)]
+pub struct RkwTable {
+    pub refusal: u64,
+    pub place: u64,
+    pub more: u64,
+    pub columns: u64,
+    pub row_size: u64,
+    pub existence: u64,
+    pub rows_kind: u64,
+    pub rows_value: u64,
+}
+
+#[repr(C)]
+pub struct RkwColumn {
+    pub refusal: u64,
+    pub place: u64,
+    pub more: u64,
+    pub found: u64,
+    pub tag: u64,
+    pub offset: u64,
+    pub width: u64,
+    pub bit: u64,
+}
+
+#[repr(C)]
+pub struct RkwCount {
+    pub refusal: u64,
+    pub place: u64,
+    pub more: u64,
+    pub rows: u64,
+}
+
+#[repr(C)]
+pub struct RkwCell {
+    pub refusal: u64,
+    pub place: u64,
+    pub more: u64,
+    pub found: u64,
+    pub kind: u64,
+    pub value: u64,
+}
+
+#[repr(C)]
+pub struct RkwRow {
+    pub refusal: u64,
+    pub place: u64,
+    pub more: u64,
+    pub found: u64,
+    pub row: u64,
+}
+
+#[repr(C)]
+pub struct RkwCells {
+    pub refusal: u64,
+    pub place: u64,
+    pub more: u64,
+    pub found: u64,
+    pub cells: u64,
 }
 
 fn number_in(refusal: Refusal) -> u64
@@ -369,6 +443,212 @@ fn property_answer(answer: Property) -> RkwProperty
     }
 }
 
+fn kind_of(named: Named) -> u64
+    ensures { λ r. ⌜ r ≡ kindOf named ⌝ }
+{
+    match named {
+        Named::Nothing => 1,
+        Named::Item(_) => 2,
+        Named::Subnode(_) => 3,
+    }
+}
+
+fn number_of(named: Named) -> u64
+    ensures { λ r. ⌜ r ≡ numberOf named ⌝ }
+{
+    match named {
+        Named::Nothing => 0,
+        Named::Item(item) => item as u64,
+        Named::Subnode(subnode) => subnode as u64,
+    }
+}
+
+fn table_answer(answer: TableAnswer) -> RkwTable
+    ensures { λ r. ⌜ r ≡ tableAnswer answer ⌝ }
+{
+    match answer {
+        TableAnswer::Says(t) => {
+            let rows = t.rows;
+            RkwTable {
+                refusal: 0,
+                place: 0,
+                more: 0,
+                columns: t.columns,
+                row_size: t.size,
+                existence: t.existence,
+                rows_kind: kind_of(rows),
+                rows_value: number_of(rows),
+            }
+        }
+        TableAnswer::Refused(r) => no_table(number_in(r), r.place, r.more),
+    }
+}
+
+fn no_table(refusal: u64, place: u64, more: u64) -> RkwTable
+    ensures { λ r. ⌜ r ≡ noTable refusal place more ⌝ }
+{
+    RkwTable {
+        refusal,
+        place,
+        more,
+        columns: 0,
+        row_size: 0,
+        existence: 0,
+        rows_kind: 0,
+        rows_value: 0,
+    }
+}
+
+fn no_column(refusal: u64, place: u64, more: u64) -> RkwColumn
+    ensures { λ r. ⌜ r ≡ noColumn refusal place more ⌝ }
+{
+    RkwColumn {
+        refusal,
+        place,
+        more,
+        found: 0,
+        tag: 0,
+        offset: 0,
+        width: 0,
+        bit: 0,
+    }
+}
+
+fn column_answer(answer: ColumnAnswer) -> RkwColumn
+    ensures { λ r. ⌜ r ≡ columnAnswer answer ⌝ }
+{
+    match answer {
+        ColumnAnswer::Found(c) => RkwColumn {
+            refusal: 0,
+            place: 0,
+            more: 0,
+            found: 1,
+            tag: c.tag as u64,
+            offset: c.offset as u64,
+            width: c.width as u64,
+            bit: c.bit as u64,
+        },
+        ColumnAnswer::Absent => no_column(0, 0, 0),
+        ColumnAnswer::Refused(r) => no_column(number_in(r), r.place, r.more),
+    }
+}
+
+fn count_answer(answer: Counted) -> RkwCount
+    ensures { λ r. ⌜ r ≡ countAnswer answer ⌝ }
+{
+    match answer {
+        Counted::Rows(rows) => RkwCount {
+            refusal: 0,
+            place: 0,
+            more: 0,
+            rows,
+        },
+        Counted::Refused(r) => RkwCount {
+            refusal: number_in(r),
+            place: r.place,
+            more: r.more,
+            rows: 0,
+        },
+    }
+}
+
+// A cell that is there, or missing in its row: its kind and its value.
+fn valued_cell(kind: u64, value: u64) -> RkwCell
+    ensures { λ r. ⌜ r ≡ valuedCell kind value ⌝ }
+{
+    RkwCell {
+        refusal: 0,
+        place: 0,
+        more: 0,
+        found: 1,
+        kind,
+        value,
+    }
+}
+
+fn no_cell(refusal: u64, place: u64, more: u64) -> RkwCell
+    ensures { λ r. ⌜ r ≡ noCell refusal place more ⌝ }
+{
+    RkwCell {
+        refusal,
+        place,
+        more,
+        found: 0,
+        kind: 0,
+        value: 0,
+    }
+}
+
+fn cell_answer(answer: Cell) -> RkwCell
+    ensures { λ r. ⌜ r ≡ cellAnswer answer ⌝ }
+{
+    match answer {
+        Cell::Number(value) => valued_cell(0, value),
+        Cell::Empty => valued_cell(1, 0),
+        Cell::Item(item) => valued_cell(2, item as u64),
+        Cell::Subnode(subnode) => valued_cell(3, subnode as u64),
+        Cell::Missing => valued_cell(4, 0),
+        Cell::Absent => no_cell(0, 0, 0),
+        Cell::Refused(r) => no_cell(number_in(r), r.place, r.more),
+    }
+}
+
+fn row_answer(answer: FoundRow) -> RkwRow
+    ensures { λ r. ⌜ r ≡ rowAnswer answer ⌝ }
+{
+    match answer {
+        FoundRow::Row(row) => RkwRow {
+            refusal: 0,
+            place: 0,
+            more: 0,
+            found: 1,
+            row: row as u64,
+        },
+        FoundRow::Absent => RkwRow {
+            refusal: 0,
+            place: 0,
+            more: 0,
+            found: 0,
+            row: 0,
+        },
+        FoundRow::Refused(r) => RkwRow {
+            refusal: number_in(r),
+            place: r.place,
+            more: r.more,
+            found: 0,
+            row: 0,
+        },
+    }
+}
+
+fn cells_answer(answer: RowRead) -> RkwCells
+    ensures { λ r. ⌜ r ≡ cellsAnswer answer ⌝ }
+{
+    match answer {
+        RowRead::Cells(cells) => RkwCells {
+            refusal: 0,
+            place: 0,
+            more: 0,
+            found: 1,
+            cells,
+        },
+        RowRead::Absent => RkwCells {
+            refusal: 0,
+            place: 0,
+            more: 0,
+            found: 0,
+            cells: 0,
+        },
+        RowRead::Refused(r) => RkwCells {
+            refusal: number_in(r),
+            place: r.place,
+            more: r.more,
+            found: 0,
+            cells: 0,
+        },
+    }
+}
+
 #[no_mangle]
 pub extern "C" fn rkw_header(image: &[u8]) -> RkwHeader
     ensures { λ r. ⌜ r ≡ headerAnswer (headerOf (now (image .entry))) ⌝ }
@@ -491,6 +771,54 @@ pub extern "C" fn rkw_find_property(block: &[u8], id: u16) -> RkwProperty
     ensures { λ r. ⌜ r ≡ propertyAnswer (propertyIn (now (block .entry)) id) ⌝ }
 {
     property_answer(pst::find_property(block, id))
+}
+
+#[no_mangle]
+pub extern "C" fn rkw_table(block: &[u8]) -> RkwTable
+    ensures { λ r. ⌜ r ≡ tableAnswer (tableOf (now (block .entry))) ⌝ }
+{
+    table_answer(pst::table(block))
+}
+
+#[no_mangle]
+pub extern "C" fn rkw_column(block: &[u8], index: u32) -> RkwColumn
+    ensures { λ r. ⌜ r ≡ columnAnswer (columnOf (now (block .entry)) index) ⌝ }
+{
+    column_answer(pst::column(block, index))
+}
+
+#[no_mangle]
+pub extern "C" fn rkw_count_rows<'a>(block: &'a [u8], rows: &'a [u8]) -> RkwCount
+    ensures { λ r. ⌜ r ≡ countAnswer (countOf (now (block .entry)) (now (rows .entry))) ⌝ }
+{
+    count_answer(pst::count_rows(block, rows))
+}
+
+#[no_mangle]
+pub extern "C" fn rkw_cell<'a>(block: &'a [u8], rows: &'a [u8], row: u32, tag: u32) -> RkwCell
+    ensures { λ r. ⌜ r ≡ cellAnswer (cellOf (now (block .entry)) (now (rows .entry)) row tag) ⌝ }
+{
+    cell_answer(pst::cell(block, rows, row, tag))
+}
+
+#[no_mangle]
+pub extern "C" fn rkw_find_row(block: &[u8], id: u32) -> RkwRow
+    ensures { λ r. ⌜ r ≡ rowAnswer (rowOf (now (block .entry)) id) ⌝ }
+{
+    row_answer(pst::find_row(block, id))
+}
+
+#[no_mangle]
+pub extern "C" fn rkw_read_row<'a>(
+    block: &'a [u8],
+    rows: &'a [u8],
+    row: u32,
+    places: &mut [u64],
+) -> RkwCells
+    ensures answer { λ r. ⌜ r ≡ cellsAnswer (rowRead (now (block .entry)) (now (rows .entry)) row (length (now (places .entry)))) ⌝ }
+    ensures area { λ _. ⌜ now (places .exit) ≡ rowArea (now (block .entry)) (now (rows .entry)) row (now (places .entry)) ⌝ }
+{
+    cells_answer(pst::read_row(block, rows, row, places))
 }
 
 #[no_mangle]
