@@ -4,7 +4,7 @@ ghost use mathlib.Core.Path.{_≡_};
 ghost use mathlib.Core.Bool.{true};
 ghost use Prim.Native.Nat.{_+_, _*_, _≤_, _<_};
 ghost use lib.ListN.{length};
-ghost use Rattle.columns.specs.Record.{columnCount};
+ghost use Rattle.columns.specs.Record.{columnCount, existenceStart};
 ghost use Rattle.columns.specs.Columns.{apart, apartFrom, allApart, columnsFit, eachFits};
 ghost use Rattle.columns.specs.Sound.{RecordSound};
 ghost use Rattle.apart.specs.Steps.{marked, Free};
@@ -63,30 +63,44 @@ fn claim(marks: &mut [u8], from: usize, count: usize) -> bool
     free
 }
 
-// A quick pass over columns whose tags ascend, in rows that are not long: each marks its bytes and its
-// bit. Where it says no, nothing is known.
-fn apart_surely(table: &[u8]) -> bool
-    requires { ⌜ RecordSound (now table) × (eachFits (now table) (columnCount (now table)) ≡ true) ⌝ }
+// A quick pass over columns whose tags ascend: each marks its bytes and its bit. Where it says no, nothing
+// is known.
+fn apart_by_marks(table: &[u8], bytes: &mut [u8]) -> bool
+    requires { ⌜ RecordSound (now table) × (eachFits (now table) (columnCount (now table)) ≡ true) × (existenceStart (now table) ≤ length (now bytes)) ⌝ }
     ensures { λ r. ⌜ (r ≡ true → allApart (now (table .entry)) (columnCount (now (table .entry))) ≡ true) ⌝ }
 {
     let count = columns::column_count(table);
-    if 1024 < columns::existence_start(table) {
-        return false;
-    }
-    let mut bytes = [0u8; 1024];
     let mut bits = [0u8; 256];
     let mut above: u64 = 0;
     let mut sure = true;
     let mut i: usize = 0;
     while i < count {
         let column = columns::column_at(table, i);
-        let bytes_free = claim(&mut bytes, column.offset, column.width);
+        let bytes_free = claim(bytes, column.offset, column.width);
         let bit_free = claim(&mut bits, column.bit, 1);
         sure = sure & bytes_free & bit_free & (above <= column.tag as u64);
         above = column.tag as u64 + 1;
         i += 1;
     }
     sure
+}
+
+// The quick pass, with as many marks as the row may need: 255 columns side by side take 2,040 bytes at
+// most, and usual tables far fewer.
+fn apart_surely(table: &[u8]) -> bool
+    requires { ⌜ RecordSound (now table) × (eachFits (now table) (columnCount (now table)) ≡ true) ⌝ }
+    ensures { λ r. ⌜ (r ≡ true → allApart (now (table .entry)) (columnCount (now (table .entry))) ≡ true) ⌝ }
+{
+    let start = columns::existence_start(table);
+    if start <= 512 {
+        let mut few = [0u8; 512];
+        return apart_by_marks(table, &mut few);
+    }
+    if start <= 2048 {
+        let mut many = [0u8; 2048];
+        return apart_by_marks(table, &mut many);
+    }
+    false
 }
 
 // Whether each column has its place in a row, and no two share anything.
