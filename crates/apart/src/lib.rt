@@ -63,6 +63,22 @@ fn claim(marks: &mut [u8], from: usize, count: usize) -> bool
     free
 }
 
+// The same for a column's bytes. Its width is said once more as a number, for which the compiler needs no
+// loop.
+fn claim_bytes(marks: &mut [u8], from: usize, width: usize) -> bool
+    requires { ⌜ from + width ≤ length (now marks) ⌝ }
+    ensures free { λ r. ⌜ (r ≡ true → Free (now (marks .entry)) from width) ⌝ }
+    ensures marks { λ _. ⌜ now (marks .exit) ≡ marked (now (marks .entry)) from width ⌝ }
+{
+    if width == 4 {
+        return claim(marks, from, 4);
+    }
+    if width == 8 {
+        return claim(marks, from, 8);
+    }
+    claim(marks, from, width)
+}
+
 // A quick pass over columns whose tags ascend: each marks its bytes and its bit. Where it says no, nothing
 // is known.
 fn apart_by_marks(table: &[u8], bytes: &mut [u8]) -> bool
@@ -76,7 +92,7 @@ fn apart_by_marks(table: &[u8], bytes: &mut [u8]) -> bool
     let mut i: usize = 0;
     while i < count {
         let column = columns::column_at(table, i);
-        let bytes_free = claim(bytes, column.offset, column.width);
+        let bytes_free = claim_bytes(bytes, column.offset, column.width);
         let bit_free = claim(&mut bits, column.bit, 1);
         sure = sure & bytes_free & bit_free & (above <= column.tag as u64);
         above = column.tag as u64 + 1;

@@ -17,7 +17,7 @@ use Rattle.apart.proofs.apart_by_marks.Statement.{statement}
 use Rattle.apart.proofs.apart_by_marks.Tie as tie
 
 abbrev Inv-loop : tie.InvT-loop
-Inv-loop table bytes₀ count bits₀ above₀ sure₀ i₀ bytes bits above sure i = 
+Inv-loop table bytes₀ count bits₀ above₀ sure₀ i₀ bytes bits above sure i =
     (i ≤ count) × (length bytes ≡ length bytes₀) × (length bits ≡ 256) × (count ≡ columnCount table) × (count < 256) × RecordSound table × (eachFits table (columnCount table) ≡ true)
     × (existenceStart table ≤ length bytes) × (sure ≡ true → Surely table i bytes bits above)
 
@@ -25,23 +25,23 @@ abbrev μ-loop : tie.MeasureT-loop
 μ-loop table bytes₀ count bits₀ above₀ sure₀ i₀ bytes bits above sure i = count - i
 
 loop-holds : tie.Need-loop-holds Inv-loop μ-loop
-loop-holds c = 
+loop-holds c =
     let pre = c .before .before .before .pre in
     (omega arith, refl, refl, c .column-count .ensures .0, c .column-count .ensures .1, pre .0, pre .1, pre .2, λ _. surely-none _ _ _)
 
-claim-requires : tie.Need-claim-requires Inv-loop μ-loop
-claim-requires c κs = 
+claim-bytes-requires : tie.Need-claim-bytes-requires Inv-loop μ-loop
+claim-bytes-requires c κs =
     let l = c .before .before .before .loop in
     row-room _ (l .i) (length (l .bytes)) (c .before .column-at .result) (sym (c .before .column-at .ensures .0)) (each-sound _ _ (l .inv .6) (l .i) (omega (arith, l .inv .3))) (l .inv .7)
 
 loop-again : tie.Need-loop-again Inv-loop μ-loop
-loop-again c = 
+loop-again c =
     let l = c .before .before .before .before .before .before .before .before .before .before .before .loop in
     let t = c .before .before .before .before .before .before .before .before .before .before .before .before .before .before .before .args .table .now in
     let inv = l .inv in
     let column = c .before .before .before .before .before .before .before .before .before .column-at in
-    let byte = c .before .before .before .before .before .before .before .claim in
-    let bit = c .before .before .before .claim2 in
+    let byte = c .before .before .before .before .before .before .before .claim-bytes in
+    let bit = c .before .before .before .claim in
     let kept = ap length (byte .ensures .1) ∙ marked-length _ _ _ in
     let next : l .i + 1 ≤ columnCount t = omega (arith, inv .3) in (
       omega arith,
@@ -78,7 +78,7 @@ apart-by-marks-spec =
     (λ c κs. omega (arith, c .before .before .pre .0 .whole))
     loop-holds
     (λ c κs. let inv = c .before .loop .inv in (omega (arith, inv .5 .whole, inv .3), omega (arith, inv .4)))
-    claim-requires
+    claim-bytes-requires
     (λ c. sym (c .before .before .before .before .before .before .before .loop .inv .2))
     (λ c κs. omega (arith, c .before .before .before .before .before .column-at .ensures .3, c .before .before .before .before .before .before .before .loop .inv .2))
     (λ c. search needs)
