@@ -1,13 +1,10 @@
 -- A cell, case by case. Assumes nothing.
-use Prim.Native.Nat.{ℕ, _+_, _^_, _≤_, _<_}
-use mathlib.Core.Path.{_≡_, refl, sym, ap, _∙_}
-use mathlib.Core.Bool.{Bool, true, false, cond}
+use Prim.Native.Nat.{ℕ, _+_, _≤_, _<_}
+use mathlib.Core.Path.{_≡_, sym, ap, _∙_}
+use mathlib.Core.Bool.{true, false}
 use mathlib.Core.List.{List}
-use native.Mathlib.Omega.{arith}
-use lib.Dec.{leb}
 use borrow.Author.Tests.{le-leb, lt-leb}
 use Rattle.refusal.proofs.OrderLaws.{test-goes, test-ends}
-use Rattle.keys.specs.declared.Seat.{Seat}
 use Rattle.keys.specs.declared.Seat.the-variants.{At, Nowhere}
 use Rattle.heap.specs.Items.{itemFits, badItem}
 use Rattle.columns.specs.declared.Column.{Column}
@@ -15,7 +12,6 @@ use Rattle.columns.specs.Columns.{columnAt, refers, seatOf}
 use Rattle.table.specs.declared.Named.{Named}
 use Rattle.table.specs.declared.Named.the-variants as named
 use Rattle.table.specs.Says.{namedBy}
-use Rattle.cells.specs.declared.Cell.{Cell}
 use Rattle.cells.specs.declared.Cell.the-variants.{Number, Empty, Item, Subnode, Missing, Absent, Refused}
 use Rattle.cells.specs.Rows.{rowCount, rowAt}
 use Rattle.cells.specs.Cells.{exists, namedCell, stored, cellAt, cellBy, cellIn}

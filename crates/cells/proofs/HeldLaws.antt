@@ -4,13 +4,12 @@ use mathlib.Core.Path.{_≡_, refl, sym, ap, _∙_, subst}
 use mathlib.Core.Bool.{Bool, true, false}
 use mathlib.Core.List.{List, [], _∷_}
 use mathlib.Core.Logic.{_↔_}
-use lib.Dec.{leb}
 use lib.ListN.{length}
 use borrow.Author.Tests.{leb-true, le-leb, lt-leb}
 use Rattle.refusal.specs.declared.Refusal.{Refusal}
 use Rattle.refusal.specs.declared.Verdict.{Verdict}
 use Rattle.refusal.specs.declared.Verdict.the-variants.{Accepted, Refused}
-use Rattle.refusal.specs.Order.{_then_, rule, demand, inOrder, after, FirstFault}
+use Rattle.refusal.specs.Order.{_then_, rule, inOrder, after, FirstFault}
 use Rattle.refusal.proofs.OrderLaws.{goes, ends, demanded, test-goes, test-ends, then-left, then-right, refused-exactly, in-order-append}
 use Rattle.heap.specs.Items.{itemFits, Numbered, badItem, itemPart}
 use Rattle.heap.proofs.ItemLaws.{number-exactly}

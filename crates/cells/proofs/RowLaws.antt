@@ -1,9 +1,8 @@
 -- A row lies in the rows' bytes. Assumes nothing.
-use Prim.Native.Nat.{ℕ, suc, _+_, _*_, _/_, _≤_, _<_}
+use Prim.Native.Nat.{ℕ, _+_, _*_, _/_, _≤_, _<_}
 use mathlib.Core.Path.{_≡_}
 use mathlib.Core.List.{List}
-use native.Mathlib.Nat.{div-mul-le-self, suc-mul, mul-le-mul-right}
-use native.Mathlib.Omega.{arith}
+use native.Mathlib.Nat.{div-mul-le-self}
 use lib.ListN.{length}
 use Rattle.le.proofs.FieldLaws.{part-length}
 use Rattle.keys.proofs.RecordLaws.{record-inside}

@@ -1,21 +1,20 @@
 -- A cell depends on no byte of the rows outside its row, and each column's is found by its tag. Assumes nothing.
-use Prim.Native.Nat.{ℕ, _+_, _/_, _≤_, _<_}
-use mathlib.Core.Path.{_≡_, refl, sym, ap, ap₂, _∙_}
+use Prim.Native.Nat.{ℕ, _<_}
+use mathlib.Core.Path.{_≡_, refl, sym, ap, _∙_}
 use mathlib.Core.List.{List}
 use native.Mathlib.Omega.{arith}
 use lib.ListN.{length, getD}
 use Rattle.refusal.specs.declared.Verdict.the-variants as verdict
 use Rattle.refusal.specs.Order.{after}
-use Rattle.columns.specs.Record.{columnCount, rowSize}
-use Rattle.columns.specs.Columns.{columnAt, tags, seatOf}
+use Rattle.columns.specs.Record.{columnCount}
+use Rattle.columns.specs.Columns.{columnAt, tags}
 use Rattle.columns.proofs.SeatLaws.{seat-own}
 use Rattle.table.specs.declared.Named.{Named}
 use Rattle.table.specs.declared.Named.the-variants.{Nothing, Item, Subnode}
-use Rattle.table.specs.Context.{tableRecord, tableRules, TableSound}
-use Rattle.cells.specs.declared.Cell.{Cell}
+use Rattle.table.specs.Context.{tableRecord, TableSound}
 use Rattle.cells.specs.declared.Cell.the-variants as cell
 use Rattle.cells.specs.Rows.{heldRules, heldBytes, rowsNamed, rowBytes, rowsRules, rowsTest, rowCount, rowAt}
-use Rattle.cells.specs.Cells.{cellAt, cellBy, cellIn, cellOf}
+use Rattle.cells.specs.Cells.{cellAt, cellIn, cellOf}
 use Rattle.cells.proofs.HeldLaws.{cell-on}
 use Rattle.cells.proofs.CellLaws.{known-tag}
 

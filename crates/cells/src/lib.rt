@@ -6,14 +6,14 @@ use refusal::Refusal;
 use refusal::Verdict;
 use table::Named;
 ghost use mathlib.Core.Path.{_≡_};
-ghost use Prim.Native.Nat.{_+_, _≤_, _<_};
+ghost use Prim.Native.Nat.{_+_, _<_};
 ghost use lib.ListN.{length};
 ghost use Rattle.refusal.specs.Order.{inOrder};
 ghost use Rattle.heap.specs.Shape.{Heap};
 ghost use Rattle.columns.specs.Record.{rowSize};
 ghost use Rattle.columns.specs.Sound.{RecordSound, ColumnSound};
 ghost use Rattle.table.specs.Context.{tableRecord, TableSound};
-ghost use Rattle.cells.specs.Rows.{heldRules, Held, heldBytes, rowsNamed, rowBytes, rowsTest, rowCount, rowAt, countOf};
+ghost use Rattle.cells.specs.Rows.{heldRules, Held, rowsNamed, rowBytes, rowsTest, rowCount, rowAt, countOf};
 ghost use Rattle.cells.specs.Cells.{exists, namedCell, stored, cellAt, cellIn, cellOf};
 
 pub enum Counted {

@@ -7,8 +7,8 @@ use mathlib.Core.List.{List}
 use native.Mathlib.Numerals.{add-one}
 use native.Mathlib.Omega.{arith}
 use lib.Dec.{leb, eqb}
-use borrow.Author.Tests.{leb-true, le-leb, leb-false, eqb-true, eq-eqb, eqb-false, ne-eqb, not-true, not-false}
-use Rattle.laws.proofs.Tests.{and-both, both-and, not-both}
+use borrow.Author.Tests.{leb-true, le-leb, leb-false, eqb-true, eq-eqb, eqb-false, ne-eqb, not-true}
+use Rattle.laws.proofs.Tests.{and-both, both-and}
 use Rattle.columns.specs.declared.Column.{Column}
 use Rattle.columns.specs.Record.{columnCount, existenceStart, rowSize}
 use Rattle.columns.specs.Columns.{columnAt, refers, widthFits, columnFits, apart, eachFits, apartFrom, allApart, columnsFit}

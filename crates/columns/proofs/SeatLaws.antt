@@ -1,27 +1,27 @@
 -- The column with a tag is the one that is found. Assumes nothing.
-use Prim.Native.Nat.{ℕ, zero, suc, _+_, _*_, _≤_, _<_, suc-le-suc}
+use Prim.Native.Nat.{ℕ, zero, suc, _+_, _*_, _<_, suc-le-suc}
 use mathlib.Core.Path.{_≡_, refl, sym, ap, _∙_}
 use mathlib.Core.Bool.{Bool, true, false, cond}
 use mathlib.Core.Logic.{_↔_}
-use mathlib.Core.List.{List, [], _∷_, map}
+use mathlib.Core.List.{List, [], _∷_}
 use native.Mathlib.Nat.{le-of-suc-le-suc, not-suc-le-zero, zero-lt-suc, mul-comm}
 use native.Mathlib.Omega.{arith}
 use lib.Dec.{eqb}
 use lib.ListN.{length, getD, length-map}
-use borrow.Author.Tests.{eqb-true, eq-eqb, eqb-false, ne-eqb}
+use borrow.Author.Tests.{eq-eqb, eqb-false, ne-eqb}
 use Rattle.le.specs.Bytes.{field}
-use Rattle.le.proofs.FieldLaws.{field-part, part-length}
+use Rattle.le.proofs.FieldLaws.{field-part}
 use Rattle.keys.specs.declared.Seat.{Seat}
 use Rattle.keys.specs.declared.Seat.the-variants.{At, Nowhere}
 use Rattle.keys.specs.declared.Sought.the-variants.{Equal}
 use Rattle.keys.specs.Plain.{Missing}
 use Rattle.keys.specs.Records.{significant, records, keyAt, keyOf}
 use Rattle.keys.specs.Search.{onward, meets, firstThat}
-use Rattle.keys.proofs.RecordLaws.{keysFrom, keys-all, keys-at, keys-none, key-is, records-length}
+use Rattle.keys.proofs.RecordLaws.{keysFrom, keys-all, keys-at, key-is, records-length}
 use Rattle.keys.proofs.FoundLaws.{found-inside, keys-are}
 use Rattle.columns.specs.Record.{columnCount}
 use Rattle.columns.specs.Columns.{columnAt, columnShape, columnBytes, tags, seatOf}
-use Rattle.columns.specs.Sound.{RecordSound, Apart, ColumnsSound}
+use Rattle.columns.specs.Sound.{RecordSound, ColumnsSound}
 
 -- the first of some numbers that equals k
 module _ (k : ℕ) where

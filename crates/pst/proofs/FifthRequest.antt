@@ -1,15 +1,14 @@
 -- Folder tables. Assumes nothing.
 use Prim.Native.Nat.{ℕ, _+_, _*_, _≤_, _<_}
-use mathlib.Core.Path.{_≡_, refl, sym, ap, ap₂, _∙_, subst}
-use mathlib.Core.Bool.{Bool, true, false, cond}
+use mathlib.Core.Path.{_≡_, refl, sym, ap, _∙_, subst}
+use mathlib.Core.Bool.{Bool, true, false}
 use mathlib.Core.Logic.{_↔_}
 use mathlib.Core.List.{List, [], _∷_, map}
 use native.Mathlib.Omega.{arith}
 use lib.Dec.{leb}
 use borrow.Author.Tests.{leb-true, leb-false}
-use lib.ListN.{length, getD, drop}
+use lib.ListN.{length, drop}
 use Rattle.laws.proofs.Tests.{not-both}
-use Rattle.refusal.specs.declared.Refusal.{Refusal}
 use Rattle.refusal.specs.declared.Verdict.{Verdict}
 use Rattle.refusal.specs.declared.Verdict.the-variants as verdict
 use Rattle.refusal.specs.Order.{after, AllHold}
@@ -25,10 +24,10 @@ use Rattle.table.specs.declared.ColumnAnswer.the-variants as column
 use Rattle.table.specs.declared.FoundRow.{FoundRow}
 use Rattle.table.specs.declared.FoundRow.the-variants as row
 use Rattle.table.specs.Context.{tableRecord, tableTest, TableSound}
-use Rattle.table.specs.Says.{tableIn, tableOf, columnIn, columnOf}
+use Rattle.table.specs.Says.{tableIn, tableOf, columnOf}
 use Rattle.table.specs.RowIndex.{rowRules, rowOf, IndexSound, rowId, rowRecords}
 use Rattle.table.proofs.ContextLaws.{table-exactly}
-use Rattle.table.proofs.IndexLaws.{table-on, table-refused, column-on, column-refused}
+use Rattle.table.proofs.IndexLaws.{table-on, column-on, column-refused}
 use Rattle.table.proofs.SaidLaws.{column-past, column-there}
 use Rattle.table.proofs.RowLaws.{refusalIn, row-answered-exactly, row-scan-holds}
 use Rattle.cells.specs.declared.Counted.the-variants as count
@@ -37,7 +36,7 @@ use Rattle.cells.specs.declared.Cell.the-variants as cell
 use Rattle.cells.specs.Rows.{Held, rowsNamed, rowBytes, rowsTest, rowCount, rowAt, countOf}
 use Rattle.cells.specs.Cells.{cellAt, cellOf}
 use Rattle.cells.specs.Tried.{cellRules}
-use Rattle.cells.proofs.HeldLaws.{rows-exactly, count-on, count-refused, cell-on}
+use Rattle.cells.proofs.HeldLaws.{rows-exactly, count-on, cell-on}
 use Rattle.cells.proofs.CellLaws as cells-laws
 use Rattle.cells.proofs.TriedLaws as tried
 use Rattle.cells.proofs.WithinLaws.{row-only, cell-within, cell-own}

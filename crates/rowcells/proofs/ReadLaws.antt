@@ -1,9 +1,9 @@
 -- What is answered for a row, and the area then. Assumes nothing.
 use Prim.Native.Nat.{ℕ, _+_, _*_, _/_, _≤_, _<_}
-use mathlib.Core.Path.{_≡_, refl, sym, ap, _∙_, subst}
+use mathlib.Core.Path.{_≡_, refl, sym, ap, _∙_}
 use mathlib.Core.Bool.{Bool, true, false, cond}
 use mathlib.Core.Logic.{_↔_}
-use mathlib.Core.List.{List, [], _∷_, _++_}
+use mathlib.Core.List.{List, []}
 use native.Mathlib.Omega.{arith}
 use lib.Dec.{leb}
 use lib.ListN.{length, getD, take, drop, length-append, length-drop}
@@ -17,7 +17,6 @@ use Rattle.refusal.specs.declared.Verdict.{Verdict}
 use Rattle.refusal.specs.declared.Verdict.the-variants as verdict
 use Rattle.refusal.specs.Order.{_needing_, rule, demand, inOrder, after, _then_, FirstFault}
 use Rattle.refusal.proofs.OrderLaws.{goes, ends, in-order-append, refused-exactly}
-use Rattle.keys.specs.Search.{joined}
 use Rattle.keys.proofs.Pieces.{pieces-length, piece-at}
 use Rattle.columns.specs.Record.{columnCount}
 use Rattle.columns.specs.Columns.{tags}

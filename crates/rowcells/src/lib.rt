@@ -10,7 +10,7 @@ ghost use lib.ListN.{length, drop};
 ghost use Rattle.laws.specs.Front.{fronted};
 ghost use Rattle.refusal.specs.Order.{_needing_};
 ghost use Rattle.columns.specs.Record.{columnCount};
-ghost use Rattle.table.specs.Context.{tableRecord, TableSound};
+ghost use Rattle.table.specs.Context.{tableRecord};
 ghost use Rattle.cells.specs.Rows.{rowBytes, rowsTest, rowCount};
 ghost use Rattle.rowcells.specs.RowCells.{cellWords, placesOf, rowRead, rowArea};
 

@@ -1,6 +1,6 @@
 -- A table is accepted exactly when each rule holds. Assumes nothing.
 use Prim.Native.Nat.{ℕ, _≤_}
-use mathlib.Core.Path.{_≡_, refl, sym, ap, _∙_}
+use mathlib.Core.Path.{_≡_, refl, sym, _∙_}
 use mathlib.Core.Bool.{true, false}
 use mathlib.Core.List.{List}
 use mathlib.Core.Logic.{_↔_}
@@ -13,11 +13,11 @@ use Rattle.refusal.specs.declared.Verdict.{Verdict}
 use Rattle.refusal.specs.declared.Verdict.the-variants.{Accepted, Refused}
 use Rattle.refusal.specs.Order.{_then_, demand, inOrder, FirstFault}
 use Rattle.refusal.proofs.OrderLaws.{goes, ends, demanded, test-goes, test-ends, then-left, then-right, refused-exactly, in-order-append}
-use Rattle.heap.specs.Shape.{clientKind, userRoot, shapeRules, heapTest, Heap}
-use Rattle.heap.specs.Items.{itemFits, Numbered, badItem}
+use Rattle.heap.specs.Shape.{clientKind, userRoot, shapeRules, heapTest}
+use Rattle.heap.specs.Items.{itemFits, badItem}
 use Rattle.heap.proofs.ShapeLaws.{heap-exactly}
 use Rattle.heap.proofs.ItemLaws.{number-exactly, item-lies}
-use Rattle.columns.specs.Record.{columnCount, recordFits}
+use Rattle.columns.specs.Record.{recordFits}
 use Rattle.columns.specs.Columns.{columnsFit}
 use Rattle.columns.proofs.RecordLaws.{record-exactly}
 use Rattle.columns.proofs.ColumnLaws.{columns-exactly}

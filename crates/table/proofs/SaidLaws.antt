@@ -1,6 +1,6 @@
 -- What is said of a table and of a column is refused exactly with the first fault of the table's rules. Assumes nothing.
 use Prim.Native.Nat.{ℕ, _+_, _≤_, _<_}
-use mathlib.Core.Path.{_≡_, refl, sym, ap, _∙_}
+use mathlib.Core.Path.{_≡_}
 use mathlib.Core.Bool.{Bool, true, false, cond}
 use mathlib.Core.Logic.{_↔_}
 use mathlib.Core.List.{List}
@@ -15,7 +15,6 @@ use Rattle.columns.specs.Record.{columnCount}
 use Rattle.columns.specs.Columns.{columnAt}
 use Rattle.table.specs.declared.Table.{Table}
 use Rattle.table.specs.declared.TableAnswer.the-variants as whole
-use Rattle.table.specs.declared.ColumnAnswer.{ColumnAnswer}
 use Rattle.table.specs.declared.ColumnAnswer.the-variants as single
 use Rattle.table.specs.Context.{tableRecord, tableRules, tableTest}
 use Rattle.table.specs.Says.{tableIn, tableOf, columnIn, columnOf}

@@ -11,7 +11,6 @@ ghost use Rattle.refusal.specs.Order.{inOrder};
 ghost use Rattle.heap.specs.Shape.{Heap};
 ghost use Rattle.heaptree.specs.Lookup.{fromRoot};
 ghost use Rattle.heaptree.specs.Root.{Rooted};
-ghost use Rattle.columns.specs.Record.{columnCount};
 ghost use Rattle.table.specs.Context.{tableRecord, contextRules, tableTest, TableSound};
 ghost use Rattle.table.specs.Says.{namedBy, tableIn, tableOf, columnIn, columnOf};
 ghost use Rattle.table.specs.RowIndex.{rowIndex, indexRoot, indexTest, rowFrom, rowOf};

@@ -1,10 +1,8 @@
 use lib.ListN.{length}
-use mathlib.Core.Bool.{true}
-use mathlib.Core.Path.{_≡_, sym, ap, _∙_}
-use Prim.Native.Nat.{ℕ, _≤_, _+_, _^_, _<_}
+use mathlib.Core.Path.{sym, ap, _∙_}
+use Prim.Native.Nat.{_≤_, _+_}
 use native.Mathlib.Omega.{arith}
 use Rattle.laws.proofs.Tests.{fails, holds}
-use Rattle.le.specs.Bytes.{field}
 use Rattle.columns.proofs.ColumnLaws.{width-bounds}
 use Rattle.table.specs.Says.{namedBy}
 use Rattle.cells.specs.declared.Cell.the-variants.{Number}

@@ -1,18 +1,15 @@
 use Rattle.table.proofs.ContextLaws.{record-short}
 use mathlib.Core.Path.{_≡_, sym, ap, ap₂, _∙_}
-use Prim.Native.Nat.{ℕ, _+_, _*_, _≤_, _<_}
+use Prim.Native.Nat.{ℕ, _<_}
 use mathlib.Core.List.{List}
 use native.Mathlib.Omega.{arith}
 use lib.ListN.{length}
-use Rattle.keys.specs.declared.Seat.{Seat}
 use Rattle.keys.specs.declared.Seat.the-variants.{At}
 use Rattle.columns.specs.declared.Column.{Column}
-use Rattle.columns.specs.Record.{columnCount, rowSize}
+use Rattle.columns.specs.Record.{columnCount}
 use Rattle.columns.specs.Columns.{columnAt, seatOf}
-use Rattle.columns.specs.Sound.{RecordSound, ColumnSound}
 use Rattle.columns.proofs.SeatLaws.{seat-inside}
-use Rattle.table.specs.Context.{tableRecord, TableSound}
-use Rattle.cells.specs.Rows.{rowAt}
+use Rattle.table.specs.Context.{tableRecord}
 use Rattle.cells.specs.Cells.{cellAt}
 use Rattle.cells.proofs.RowLaws.{row-length}
 use Rattle.cells.proofs.CellLaws.{past-the-end, unknown-tag, known-tag}

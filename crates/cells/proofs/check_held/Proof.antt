@@ -1,5 +1,4 @@
 use mathlib.Core.Path.{sym, _∙_}
-use native.Mathlib.Omega.{arith}
 use Rattle.laws.proofs.Tests.{fails, holds}
 use Rattle.cells.proofs.HeldLaws.{none-held, item-held, item-wrong, subnode-held, subnode-wrong}
 use borrow.Author.Needs.{needs}

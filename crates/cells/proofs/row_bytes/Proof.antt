@@ -1,6 +1,5 @@
-use mathlib.Core.Path.{sym, _∙_, subst}
-use Rattle.table.specs.declared.Named.{Named}
-use Rattle.cells.specs.Rows.{Held, rowBytes}
+use mathlib.Core.Path.{sym, _∙_}
+use Rattle.cells.specs.Rows.{rowBytes}
 use Rattle.cells.proofs.HeldLaws.{none-bytes, item-bytes, item-named, subnode-bytes}
 use borrow.Author.Needs.{needs}
 use Rattle.cells.proofs.row_bytes.Statement.{statement}

@@ -1,4 +1,3 @@
-use mathlib.Core.Path.{refl}
 use Rattle.columns.specs.Columns.{columnAt}
 use borrow.Author.Needs.{needs}
 use Rattle.columns.proofs.column_at.Statement.{statement}

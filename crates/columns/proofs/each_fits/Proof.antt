@@ -1,12 +1,11 @@
 use Rattle.columns.proofs.ColumnLaws.{each-on}
-use Rattle.columns.specs.Sound.{RecordSound}
 use mathlib.Core.Path.{_≡_, refl, sym, ap, ap₂, _∙_}
-use Prim.Native.Nat.{ℕ, _-_, _≤_}
-use mathlib.Core.Bool.{Bool, _&&_}
+use Prim.Native.Nat.{_-_, _≤_}
+use mathlib.Core.Bool.{_&&_}
 use native.Mathlib.Omega.{arith}
 use borrow.Author.Needs.{needs}
 use Rattle.columns.specs.Record.{columnCount}
-use Rattle.columns.specs.Columns.{columnAt, columnFits, eachFits}
+use Rattle.columns.specs.Columns.{columnFits, eachFits}
 use Rattle.columns.proofs.each_fits.Statement.{statement}
 use Rattle.columns.proofs.each_fits.Tie as tie
 

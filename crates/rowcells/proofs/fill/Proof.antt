@@ -20,11 +20,11 @@ use Rattle.table.specs.Context.{tableRecord, TableSound}
 use Rattle.table.proofs.ContextLaws.{record-long, record-short}
 use Rattle.cells.specs.declared.Cell.{Cell}
 use Rattle.cells.specs.Rows.{rowBytes, rowAt}
-use Rattle.cells.specs.Cells.{cellAt, cellOf}
+use Rattle.cells.specs.Cells.{cellAt}
 use Rattle.cells.proofs.HeldLaws.{rows-exactly}
 use Rattle.cells.proofs.RowLaws.{row-length}
 use Rattle.cells.proofs.WithinLaws.{cell-own}
-use Rattle.rowcells.specs.RowCells.{cellWords, placeOf, placesOf}
+use Rattle.rowcells.specs.RowCells.{cellWords, placeOf}
 use Rattle.rowcells.proofs.Words.{place-length}
 use Rattle.rowcells.proofs.fill.Statement.{statement}
 use Rattle.rowcells.proofs.fill.Tie as tie

@@ -1,7 +1,6 @@
 use mathlib.Core.Path.{_≡_, sym, ap, _∙_}
 use Prim.Native.Nat.{ℕ}
 use native.Mathlib.Omega.{arith}
-use lib.ListN.{length}
 use Rattle.refusal.specs.declared.Fault.the-variants.{ShortBuffer}
 use Rattle.refusal.specs.Order.{_needing_}
 use Rattle.columns.specs.Record.{columnCount}

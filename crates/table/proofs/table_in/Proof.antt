@@ -1,7 +1,5 @@
-use mathlib.Core.Path.{_≡_, ap, _∙_}
-use Prim.Native.Nat.{ℕ}
+use mathlib.Core.Path.{ap, _∙_}
 use Rattle.columns.specs.Record.{columnCount, rowSize, existenceStart, rowsValue}
-use Rattle.table.specs.Context.{tableRecord}
 use Rattle.table.specs.Says.{namedBy, tableIn}
 use Rattle.table.proofs.ContextLaws.{record-long}
 use borrow.Author.Needs.{needs}

@@ -1,12 +1,9 @@
 use mathlib.Core.Path.{sym, ap, ap₂, _∙_}
 use Prim.Native.Nat.{ℕ}
-use mathlib.Core.List.{List}
-use native.Mathlib.Omega.{arith}
 use Rattle.refusal.specs.Order.{inOrder}
 use Rattle.heaptree.specs.declared.HeapTree.{HeapTree}
 use Rattle.heaptree.specs.Root.{rootRules}
 use Rattle.columns.specs.Record.{rowIndexItem}
-use Rattle.table.specs.Context.{TableSound}
 use Rattle.table.proofs.ContextLaws.{table-exactly, record-long}
 use Rattle.table.proofs.IndexLaws.{wrong-table, right-table}
 use borrow.Author.Needs.{needs}
