@@ -1,25 +1,17 @@
 // Answers in words, without the line's end.
 use header::HeaderAnswer;
-use refusal::Refusal;
 use refusal::Verdict;
-
-pub fn say_refusal(wrong: Refusal) {
-    let fault = wrong.fault;
-    said::say_decimal(b"refused ", refusal::number_of(fault) as u64);
-    said::say_decimal(b" at place ", wrong.place);
-    said::say_decimal(b", more ", wrong.more);
-}
 
 pub fn say_verdict(verdict: Verdict) {
     match verdict {
-        Verdict::Refused(wrong) => say_refusal(wrong),
+        Verdict::Refused(wrong) => said::say_refusal(wrong),
         Verdict::Accepted => said::say(b"accepted"),
     }
 }
 
 fn say_header(answer: HeaderAnswer) {
     match answer {
-        HeaderAnswer::Refused(wrong) => say_refusal(wrong),
+        HeaderAnswer::Refused(wrong) => said::say_refusal(wrong),
         HeaderAnswer::Says(h) => {
             let nodes = h.nodes;
             let blocks = h.blocks;

@@ -1,5 +1,4 @@
 // The block tree, listed from its first block on, and each block's bytes.
-use crate::answers;
 use crate::text;
 use block::Sized;
 use tree::FoundBlock;
@@ -16,7 +15,7 @@ fn say_found(found: FoundBlock) {
         FoundBlock::Absent(pages) => said::say_decimal(b": absent, pages ", pages),
         FoundBlock::Refused(wrong) => {
             said::say(b": ");
-            answers::say_refusal(wrong);
+            said::say_refusal(wrong);
         }
     }
     said::say(b"\n");
@@ -27,7 +26,7 @@ fn test_line(image: &[u8], block: u64) {
     said::say(b": ");
     match pst::test_block(image, block) {
         Sized::Size(size) => said::say_decimal(b"size ", size),
-        Sized::Refused(wrong) => answers::say_refusal(wrong),
+        Sized::Refused(wrong) => said::say_refusal(wrong),
     }
     said::say(b"\n");
 }
@@ -38,7 +37,7 @@ fn say_read(read: Sized, buffer: &[u8]) {
             let n = text::front(size, buffer);
             text::say_bytes(&buffer[..n]);
         }
-        Sized::Refused(wrong) => answers::say_refusal(wrong),
+        Sized::Refused(wrong) => said::say_refusal(wrong),
     }
 }
 

@@ -29,7 +29,7 @@ fn say_property(block: &[u8], answer: Property) {
         Property::Item(code, value) => say_item(block, code, value),
         Property::Subnode(code, value) => say_value(code, b", subnode ", value),
         Property::Absent => said::say(b"absent"),
-        Property::Refused(wrong) => answers::say_refusal(wrong),
+        Property::Refused(wrong) => said::say_refusal(wrong),
     }
 }
 

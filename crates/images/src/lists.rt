@@ -6,31 +6,6 @@ ghost use Prim.Native.Nat.{_≤_};
 ghost use lib.ListN.{length};
 ghost use Rattle.io.specs.Counts.{Counts};
 
-// A checksum that goes on over a word's eight bytes, the lowest first.
-fn sum_on(sum: u32, word: u64) -> u32 {
-    let bytes = [
-        (word % 256) as u8,
-        (word / 256 % 256) as u8,
-        (word / 65536 % 256) as u8,
-        (word / 16777216 % 256) as u8,
-        (word / 4294967296 % 256) as u8,
-        (word / 1099511627776 % 256) as u8,
-        (word / 281474976710656 % 256) as u8,
-        (word / 72057594037927936) as u8,
-    ];
-    crc::checksum_from(sum, &bytes)
-}
-
-fn sum_of(area: &[u64]) -> u32 {
-    let mut sum: u32 = 0;
-    let mut i: usize = 0;
-    while i < area.len() {
-        sum = sum_on(sum, area[i]);
-        i += 1;
-    }
-    sum
-}
-
 // One call, and the whole area after it.
 fn list_line(image: &[u8], nodes: &[u64], area: &mut [u64]) {
     let words = area.len() as u64;
@@ -40,7 +15,7 @@ fn list_line(image: &[u8], nodes: &[u64], area: &mut [u64]) {
     answers::say_verdict(pst::find_nodes(image, nodes, area));
     said::say_decimal(b"; area of ", words);
     said::say(b" words, checksum ");
-    io::print_hex(STDOUT_FILENO, sum_of(area) as u64, 8);
+    io::print_hex(STDOUT_FILENO, said::sum_of(area) as u64, 8);
     said::say(b"\n");
 }
 

@@ -1,5 +1,4 @@
 // The node tree, listed from its first node on, and each node's data.
-use crate::answers;
 use crate::heaps;
 use crate::text;
 use node::NodeRead;
@@ -18,7 +17,7 @@ fn say_found(found: FoundNode) {
         FoundNode::Absent(pages) => said::say_decimal(b": absent, pages ", pages),
         FoundNode::Refused(wrong) => {
             said::say(b": ");
-            answers::say_refusal(wrong);
+            said::say_refusal(wrong);
         }
     }
     said::say(b"\n");
@@ -35,7 +34,7 @@ fn say_read(read: NodeRead, buffer: &[u8]) -> usize
             return n;
         }
         NodeRead::Absent => said::say(b"absent"),
-        NodeRead::Refused(wrong) => answers::say_refusal(wrong),
+        NodeRead::Refused(wrong) => said::say_refusal(wrong),
     }
     0
 }

@@ -1,7 +1,9 @@
-// What the programs share: a file loaded, words and numbers printed, and where a listing goes on.
+// What the programs share: a file loaded, words, numbers and refusals printed, areas summed up, and where a
+// listing goes on.
 use libc::SEEK_END;
 use libc::SEEK_SET;
 use libc::STDOUT_FILENO;
+use refusal::Refusal;
 ghost use Rattle.io.specs.Counts.{Counts};
 
 // What became of a file: all of its bytes, so many, stand at the buffer's front; or it was not loaded.
@@ -88,4 +90,37 @@ pub fn above(number: u64, last: u64) -> u64 {
         return number + 1;
     }
     0
+}
+
+pub fn say_refusal(wrong: Refusal) {
+    let fault = wrong.fault;
+    say_decimal(b"refused ", refusal::number_of(fault) as u64);
+    say_decimal(b" at place ", wrong.place);
+    say_decimal(b", more ", wrong.more);
+}
+
+// A checksum that goes on over a word's eight bytes, the lowest first.
+fn sum_on(sum: u32, word: u64) -> u32 {
+    let bytes = [
+        (word % 256) as u8,
+        (word / 256 % 256) as u8,
+        (word / 65536 % 256) as u8,
+        (word / 16777216 % 256) as u8,
+        (word / 4294967296 % 256) as u8,
+        (word / 1099511627776 % 256) as u8,
+        (word / 281474976710656 % 256) as u8,
+        (word / 72057594037927936) as u8,
+    ];
+    crc::checksum_from(sum, &bytes)
+}
+
+// The checksum of an area's words.
+pub fn sum_of(area: &[u64]) -> u32 {
+    let mut sum: u32 = 0;
+    let mut i: usize = 0;
+    while i < area.len() {
+        sum = sum_on(sum, area[i]);
+        i += 1;
+    }
+    sum
 }

@@ -2,8 +2,8 @@ use Prim.Native.Nat.{_-_, _≤_}
 use native.Mathlib.Omega.{arith}
 use lib.ListN.{length}
 use borrow.Author.Needs.{needs}
-use Rattle.images.proofs.lists.sum_of.Statement.{statement}
-use Rattle.images.proofs.lists.sum_of.Tie as tie
+use Rattle.said.proofs.sum_of.Statement.{statement}
+use Rattle.said.proofs.sum_of.Tie as tie
 
 abbrev Inv-loop : tie.InvT-loop
 Inv-loop area sum₀ i₀ sum i = i ≤ length area
