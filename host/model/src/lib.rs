@@ -2,7 +2,8 @@
 //!
 //! It shares nothing with the proved library but those rules, so that each can be held against the
 //! other. Every public call of `include/rekwonuda.h` has its like here, under the same name. [`build`]
-//! makes images, [`damage`] spoils them, [`images`] picks some of both, [`report`] says what is read.
+//! makes images, [`damage`] spoils them, [`images`] picks some of both, [`report`] says what is read;
+//! [`contexts`] does both for tables.
 
 #![forbid(unsafe_code)]
 
@@ -11,9 +12,11 @@ pub mod build;
 mod bytes;
 pub mod checksum;
 pub mod coding;
+pub mod contexts;
 pub mod damage;
 pub mod header;
 pub mod heap;
+pub mod heap_tree;
 pub mod images;
 pub mod node;
 pub mod nodes;
@@ -22,6 +25,7 @@ pub mod property;
 pub mod random;
 pub mod refusal;
 pub mod report;
+pub mod table;
 mod tables;
 pub mod tree;
 
@@ -34,4 +38,5 @@ pub use node::{find_node, next_node, read_node, Node};
 pub use nodes::find_nodes;
 pub use property::{find_property, Property, Value};
 pub use refusal::{Answer, Refusal};
+pub use table::{cell, column, count_rows, find_row, read_row, table, Cell, Column, Rows, Table};
 pub use tree::{check_blocks, check_nodes, Lookup};

@@ -1,7 +1,7 @@
-//! The refusals and their numbers (01, Refusal numbers; 02, 2/13).
+//! The refusals and their numbers (01, Refusal numbers; 02, 2/13 and 5/13).
 
 /// The first fault met: its number, its place, and `more`: for 11 and 21 the index of the entry at
-/// fault, for 17 the length needed, otherwise 0.
+/// fault, for 17 the length or the number of places needed, otherwise 0.
 #[derive(Clone, Copy, PartialEq, Eq, Debug)]
 pub struct Refusal {
     pub number: u64,
@@ -38,7 +38,7 @@ impl Refusal {
         }
     }
 
-    /// 17, with the length needed.
+    /// 17, with the length or the number of places needed.
     pub const fn short(needed: usize) -> Self {
         Self {
             number: 17,

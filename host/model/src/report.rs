@@ -14,7 +14,7 @@ const MOST_PROPERTIES: usize = 16;
 const MOST_IN_LIST: usize = 12;
 
 /// What every word of a result area is before a call.
-const FRESH_WORD: u64 = 0xA5A5_A5A5_A5A5_A5A5;
+pub(crate) const FRESH_WORD: u64 = 0xA5A5_A5A5_A5A5_A5A5;
 
 /// Asked of data that is no heap.
 const ANY_PROPERTY: u16 = 0x3001;
@@ -184,11 +184,9 @@ impl Asked<'_> {
     fn find_nodes(&mut self, nodes: &[u64], words: usize) {
         let mut area = vec![FRESH_WORD; words];
         let answer = accepted(crate::find_nodes(self.image, nodes, &mut area));
-        let bytes: Vec<_> = area.iter().flat_map(|word| word.to_le_bytes()).collect();
-        let sum = crate::checksum(&bytes);
         self.say(
             format!("find_nodes of {} in {words} words", nodes.len()),
-            format!("{answer}; area of {words} words, checksum {sum:08x}"),
+            format!("{answer}; {}", area_in_words(&area)),
         );
     }
 
@@ -233,7 +231,7 @@ impl Asked<'_> {
     }
 }
 
-fn or_refusal(answer: Answer<String>) -> String {
+pub(crate) fn or_refusal(answer: Answer<String>) -> String {
     answer.unwrap_or_else(|refusal| {
         let Refusal {
             number,
@@ -251,6 +249,12 @@ fn accepted(answer: Answer<()>) -> String {
 fn bytes_in_words(bytes: &[u8]) -> String {
     let sum = crate::checksum(bytes);
     format!("{} bytes, checksum {sum:08x}", bytes.len())
+}
+
+pub(crate) fn area_in_words(area: &[u64]) -> String {
+    let bytes: Vec<_> = area.iter().flat_map(|word| word.to_le_bytes()).collect();
+    let sum = crate::checksum(&bytes);
+    format!("area of {} words, checksum {sum:08x}", area.len())
 }
 
 fn lookup<T>(answer: Answer<Lookup<T>>, in_words: impl Fn(T) -> String) -> String {

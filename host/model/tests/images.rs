@@ -1,9 +1,7 @@
-//! The chosen images reach every refusal, and the sample mail file is whole.
+//! The chosen images reach every refusal.
 
-use model::build::office::office;
 use model::build::MOST_SMALL;
 use model::images::{images, refusals};
-use model::{find_property, header, Value};
 use std::collections::BTreeSet;
 
 #[test]
@@ -49,22 +47,4 @@ fn the_same_each_time() {
             .collect::<Vec<_>>()
     };
     assert_eq!(bytes(images()), bytes(images()));
-}
-
-#[test]
-fn sample_mail_file() {
-    let office = office();
-    assert_eq!(header(&office.image).map(|header| header.method), Ok(1));
-    assert_eq!(office.nodes.len(), 20);
-    for node in &office.nodes {
-        let data = office.data(node);
-        let mut out = vec![0; data.len()];
-        let read = model::read_node(&office.image, u64::from(node.node), &mut out);
-        assert_eq!((read, &out), (Ok(Some(data.len())), &data));
-    }
-    let heap = &office.heaps[&0x20_0024].block;
-    let Ok(Some(subject)) = find_property(heap, 0x37) else {
-        panic!("no subject");
-    };
-    assert!(matches!(subject.value, Value::Item(_)));
 }

@@ -1,7 +1,8 @@
-//! The crate `images` and the sample hold what the builder and the model make today, byte for byte.
+//! The crates `images` and `contexts` and the sample hold what the builder and the model make today, byte
+//! for byte.
 
 use model::build::office::office;
-use model::report::{files, report};
+use model::{contexts, report};
 use std::collections::{BTreeMap, BTreeSet};
 use std::fs;
 use std::path::PathBuf;
@@ -12,19 +13,18 @@ fn at_root(path: &str) -> PathBuf {
         .join(path)
 }
 
-#[test]
-fn data_unchanged() {
-    let folder = at_root("crates/images/data");
-    let held: BTreeMap<_, _> = fs::read_dir(&folder)
-        .expect("the folder of images")
+/// The files of a folder are those that were made, no more and no fewer.
+fn assert_held(folder: &str, made: Vec<(String, Vec<u8>)>) {
+    let held: BTreeMap<_, _> = fs::read_dir(at_root(folder))
+        .expect("the folder")
         .map(|entry| {
             let entry = entry.expect("an entry of the folder");
             let name = entry.file_name().into_string().expect("a plain name");
-            let bytes = fs::read(entry.path()).expect("an image");
+            let bytes = fs::read(entry.path()).expect("a file");
             (name, bytes)
         })
         .collect();
-    let made: BTreeMap<_, _> = files().into_iter().collect();
+    let made: BTreeMap<_, _> = made.into_iter().collect();
     let names = |files: &BTreeMap<String, Vec<u8>>| files.keys().cloned().collect::<Vec<_>>();
     assert_eq!(names(&held), names(&made));
     for (name, bytes) in &made {
@@ -35,16 +35,8 @@ fn data_unchanged() {
     }
 }
 
-#[test]
-fn sample_unchanged() {
-    let held = fs::read(at_root("samples/office.pst")).expect("the sample");
-    assert!(held == office().image, "it is not as the builder makes it");
-}
-
-#[test]
-fn report_unchanged() {
-    let held = fs::read_to_string(at_root("crates/images/stdout")).expect("the report");
-    let made = report();
+fn assert_report_held(file: &str, made: &str) {
+    let held = fs::read_to_string(at_root(file)).expect("the report");
     for (at, (held, made)) in held.lines().zip(made.lines()).enumerate() {
         assert_eq!(held, made, "line {}", at + 1);
     }
@@ -52,9 +44,52 @@ fn report_unchanged() {
 }
 
 #[test]
-fn report_shows_every_refusal() {
-    let report = report();
+fn images_unchanged() {
+    assert_held("crates/images/data", report::files());
+    assert_report_held("crates/images/stdout", &report::report());
+}
+
+#[test]
+fn contexts_unchanged() {
+    assert_held("crates/contexts/data", contexts::files());
+    assert_report_held("crates/contexts/stdout", &contexts::report());
+}
+
+#[test]
+fn sample_unchanged() {
+    let held = fs::read(at_root("samples/office.pst")).expect("the sample");
+    assert!(held == office().image, "it is not as the builder makes it");
+}
+
+fn refusals_shown(report: &str) -> BTreeSet<u64> {
     let refused = |number: &u64| report.contains(&format!("refused {number} at"));
-    let shown: BTreeSet<_> = (0..=22).filter(refused).collect();
-    assert_eq!(shown, (1..=21).collect());
+    (0..=24).filter(refused).collect()
+}
+
+#[test]
+fn reports_show_every_refusal() {
+    assert_eq!(refusals_shown(&report::report()), (1..=21).collect());
+    let of_tables = [17, 18, 19, 23].into();
+    assert_eq!(refusals_shown(&contexts::report()), of_tables);
+}
+
+/// Each damaged table has its refusal in the report, and a sound one none but that of a short area.
+#[test]
+fn contexts_by_name() {
+    let report = contexts::report();
+    let named = |line: &&str| line.contains(" bytes, rows ");
+    for part in report
+        .split_inclusive('\n')
+        .collect::<Vec<_>>()
+        .chunk_by(|_, line| !named(line))
+    {
+        let name = part[0].split(':').next().expect("a name");
+        let shown = refusals_shown(&part.concat());
+        let expected = match name.split_once("-refusal-") {
+            Some((_, rest)) => rest.split('-').next().and_then(|word| word.parse().ok()),
+            None => None,
+        };
+        let found: Vec<_> = shown.into_iter().filter(|&number| number != 17).collect();
+        assert_eq!(found, Vec::from_iter(expected), "{name}");
+    }
 }

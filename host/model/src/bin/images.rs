@@ -1,9 +1,10 @@
 //! Writes the chosen images into a folder as `NN-name.img`, or those and the report on them into the
-//! folder of the crate `images`, or the sample mail file: `images FOLDER`, `images --crate FOLDER` or
-//! `images --office FILE`.
+//! folder of the crate `images`, or the chosen tables and the report on them into that of the crate
+//! `contexts`, or the sample mail file: `images FOLDER`, `images --crate FOLDER`,
+//! `images --contexts FOLDER` or `images --office FILE`.
 
 use model::build::office::office;
-use model::report::{files, report};
+use model::{contexts, report};
 use std::path::Path;
 use std::process::ExitCode;
 use std::{env, fs, io};
@@ -13,10 +14,14 @@ fn main() -> ExitCode {
     let words: Vec<_> = words.iter().map(String::as_str).collect();
     let written = match words[..] {
         ["--office", file] => fs::write(file, office().image),
-        ["--crate", folder] => write_crate(Path::new(folder)),
-        [folder] if !folder.starts_with('-') => write_all(Path::new(folder)),
+        ["--crate", folder] => write_crate(folder, report::files(), report::report()),
+        ["--contexts", folder] => write_crate(folder, contexts::files(), contexts::report()),
+        [folder] if !folder.starts_with('-') => write_all(Path::new(folder), report::files()),
         _ => {
-            eprintln!("images FOLDER | images --crate FOLDER | images --office FILE");
+            eprintln!(
+                "images FOLDER | images --crate FOLDER | images --contexts FOLDER | \
+                 images --office FILE"
+            );
             return ExitCode::from(2);
         }
     };
@@ -29,15 +34,16 @@ fn main() -> ExitCode {
     }
 }
 
-fn write_all(folder: &Path) -> io::Result<()> {
+fn write_all(folder: &Path, files: Vec<(String, Vec<u8>)>) -> io::Result<()> {
     fs::create_dir_all(folder)?;
-    for (name, bytes) in files() {
+    for (name, bytes) in files {
         fs::write(folder.join(name), bytes)?;
     }
     Ok(())
 }
 
-fn write_crate(folder: &Path) -> io::Result<()> {
-    write_all(&folder.join("data"))?;
-    fs::write(folder.join("stdout"), report())
+fn write_crate(folder: &str, files: Vec<(String, Vec<u8>)>, report: String) -> io::Result<()> {
+    let folder = Path::new(folder);
+    write_all(&folder.join("data"), files)?;
+    fs::write(folder.join("stdout"), report)
 }

@@ -4,12 +4,14 @@
 pub mod bit_0;
 mod blocks;
 pub mod heaps;
+pub(crate) mod items;
 pub mod keys;
 pub mod lists;
 pub mod office;
 mod pages;
 pub mod seal;
 mod space;
+pub mod tables;
 
 use crate::bytes::put;
 use crate::header::{Reference, CLIENT_MAGIC, MAGIC, SENTINEL, VERSION};

@@ -1,4 +1,4 @@
-//! Named kinds of damage to a built image, and to a heap. Together they reach every refusal.
+//! Named kinds of damage to a built image, to a heap, and to a table. Together they reach every refusal.
 //!
 //! Each kind comes unsealed, so that a checksum over the damage no longer fits, and sealed, so that
 //! only the rule behind the checksum can tell.
@@ -21,6 +21,7 @@ mod header;
 pub mod heap;
 mod keys;
 mod page;
+pub mod table;
 
 use crate::build::Built;
 use crate::random::Random;
