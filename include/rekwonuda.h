@@ -6,15 +6,16 @@
  * there, and written where the parameter is not const. An empty area may come with any pointer that
  * is not null.
  *
- * While a call runs, the image (or block) that it was lent must not change, and `out` must not
- * overlap it. A call keeps nothing: it may run in several threads at once, on one image too.
+ * While a call runs, the image (or block, or rows) that it was lent must not change, and `out` or
+ * `places` must not overlap it. A call keeps nothing: it may run in several threads at once, on one
+ * image too.
  *
  * Every answer but a bare number begins with these three fields:
  *   refusal  0 where the call is answered, else the number of the first fault met (below)
  *   place    the place of that fault: an offset in the image, or 0
  *   more     what else the refusal says: for 11 and 21 the index of the first entry of the page that
- *            is at fault, counted from 0, for 17 the length needed or, of a list of nodes, a number of
- *            places, otherwise 0
+ *            is at fault, counted from 0, for 17 the length needed or, of a list of nodes and of a row
+ *            of cells, a number of places, otherwise 0
  * A field that an answer does not use is 0. A refused call leaves every byte of a buffer as it was.
  * "Absent" is an ordinary answer and no refusal: `found` is 0 where it is absent, 1 where it is there.
  * All offsets are in bytes and begin at 0.
@@ -47,7 +48,8 @@
  *   16  the shape of a data tree is wrong; the offset of its root block
  *   17  the buffer is shorter than the data; 0, and `more` is the length needed. From rkw_find_nodes:
  *       the list is over 4,096 numbers; 0, and `more` is 4,096; or the area has fewer places than
- *       the list has numbers; 0, and `more` is how many it has
+ *       the list has numbers; 0, and `more` is how many it has. From rkw_read_row: the area has fewer
+ *       places than the table has columns; 0, and `more` is how many it has
  *   18  the shape of a heap is wrong; 0
  *   19  the number of a heap item is wrong; 0
  *   20  the shape of a property tree is wrong; 0
@@ -55,6 +57,8 @@
  *       first entry at fault. The root page may hold any key. The page behind an entry of an index
  *       page may hold those from that entry's key, included, to the next entry's, excluded, and
  *       behind the last entry up to where the range of the index page ends
+ *   23  the shape of a table is wrong; 0
+ * There is no 22.
  * Of 11 and 21 the one at the first entry at fault comes, and 11 where both hold of that entry. So
  * 11 never comes with index 0.
  */
@@ -129,6 +133,52 @@ struct rkw_property_answer {
     uint64_t found, type, kind, value;
 };
 
+/* A table. columns: how many columns it has, at most 255. row_size: how many bytes a row has.
+ * existence: where in a row its existence bytes begin; they go up to its end. rows_kind says where the
+ * rows stand: 1, nowhere: there are none, and rows_value is 0; 2, in the heap item whose number is
+ * rows_value; 3, in the subnode whose number is rows_value. */
+struct rkw_table_answer {
+    uint64_t refusal, place, more;
+    uint64_t columns, row_size, existence, rows_kind, rows_value;
+};
+
+/* A column. found: 1 or 0. tag: a property id in its high two bytes, a type code in its low two.
+ * offset, width: where in a row its cell begins, and how many bytes it has. bit: the existence bit that
+ * says whether a row has the cell: bit 0 is the highest (value 80 hex) of the first existence byte. */
+struct rkw_column_answer {
+    uint64_t refusal, place, more;
+    uint64_t found, tag, offset, width, bit;
+};
+
+/* rows: how many rows the table has. */
+struct rkw_count_answer {
+    uint64_t refusal, place, more;
+    uint64_t rows;
+};
+
+/* A cell. found: 1 or 0. kind says what value is: 0, the value itself, as a number; 1, nothing: the
+ * cell is empty, and value is 0; 2, the number of the heap item that holds the value; 3, the number of
+ * the subnode that holds it; 4, nothing: the row has no such cell by its existence bit, and value is 0.
+ * Unless it is missing, a cell is of kind 1, 2 or 3 where its column's type is 0D, 1E, 1F, 48 or 102 hex
+ * or has bit 1000 hex, otherwise of kind 0. */
+struct rkw_cell_answer {
+    uint64_t refusal, place, more;
+    uint64_t found, kind, value;
+};
+
+/* The row that the row index names for an id. found: 1 or 0. row: its number as stored, from 0; whether
+ * the table has so many rows is not tested. */
+struct rkw_row_answer {
+    uint64_t refusal, place, more;
+    uint64_t found, row;
+};
+
+/* The cells of a row. found: 1 or 0. cells: how many places of the area now hold one. */
+struct rkw_cells_answer {
+    uint64_t refusal, place, more;
+    uint64_t found, cells;
+};
+
 /* The image: the bytes of a .pst file, from its first. */
 
 /* Tests the header and says what stands in it. Refusals 1 to 5. */
@@ -200,6 +250,56 @@ struct rkw_item_answer rkw_item(const uint8_t *block, size_t len, uint32_t item)
 /* Looks up a property by its id. Where the value is an item (kind 2), the item's number has been
  * tested as rkw_test_item tests it. Refusals 18 to 20. */
 struct rkw_property_answer rkw_find_property(const uint8_t *block, size_t len, uint16_t id);
+
+/* The table: a block with a heap on it that holds a table context, and where the rows stand in a
+ * subnode, the bytes of its block too, decoded. Tables whose heap or rows take several blocks are not
+ * covered.
+ *
+ * Every call on a table tests it first, in this order: the shape of the heap (18); its client kind,
+ * byte 3 of the block, which is 7C hex (23); the number of the item that holds the table record, which
+ * is the heap's user root (19); the table record (23): it begins with 7C hex, has exactly 22 bytes and 8
+ * for each column, a row has at least one byte, and its existence bytes begin in the row or at its end;
+ * the columns (23): each lies in the row before the existence bytes, its bit lies in those, it has 4
+ * bytes where its type is one of references (kinds 1, 2 and 3 of a cell), otherwise 1, 2, 4 or 8, and no
+ * two share a tag, a byte of the row or a bit. There may be no column. */
+
+/* Says what the table record says. Refusals 18, 19 and 23. */
+struct rkw_table_answer rkw_table(const uint8_t *block, size_t len);
+
+/* The column of that index, from 0, in the order in which they are stored; absent past the last.
+ * Refusals 18, 19 and 23. */
+struct rkw_column_answer rkw_column(const uint8_t *block, size_t len, uint32_t index);
+
+/* Counts the rows: as many as whole rows fit into the rows' bytes. What is left over does not count.
+ * Where the rows stand in a heap item (rows_kind 2), its number is tested (19). Where they stand in a
+ * subnode (rows_kind 3), `rows` is the bytes of that subnode's block, at most 8,176 (23); in all other
+ * cases `rows` is not looked at and may be empty. Whether these bytes are those of that subnode is not
+ * known here. Refusals 18, 19 and 23. */
+struct rkw_count_answer rkw_count_rows(const uint8_t *block, size_t len, const uint8_t *rows, size_t rows_len);
+
+/* The cell of a row, from 0, in the column of that tag. After the tests of rkw_count_rows: absent where
+ * the table has no such row, or no such column; then missing (kind 4) where the existence bit is not
+ * set; then the value. Where that is an item (kind 2), the item's number has been tested (19). The row
+ * index is not looked at. Refusals 18, 19 and 23. */
+struct rkw_cell_answer rkw_cell(const uint8_t *block, size_t len, const uint8_t *rows, size_t rows_len, uint32_t row, uint32_t tag);
+
+/* Looks up in the row index which row has that id. After the tests of every table call: the number of the
+ * item that holds the index's record (19), and the record (23): exactly 8 bytes, B5 hex, key size 4,
+ * entry size 4, at most 3 index levels, and the number of the root item. Absent where that is 0. Then,
+ * item by item on the way, its number (19), and its shape (23): not empty, whole records, ids strictly
+ * ascending and in range. The rows are not looked at. Refusals 18, 19 and 23. */
+struct rkw_row_answer rkw_find_row(const uint8_t *block, size_t len, uint32_t id);
+
+/* Puts all cells of a row, from 0, into `places`, in the order of the columns. A place is six words,
+ * those of a struct rkw_cell_answer in its order, so that an area of such structs can be lent; an area of
+ * `words` words has words / 6 places, rounded down. Each place is what rkw_cell answers for that row and
+ * the column's tag: a refusal by the number of a value's item (19) stands in its place, and is not told by
+ * the call. Words behind the place of the last column stay as they were. After the tests of
+ * rkw_count_rows: absent where the table has no such row, and nothing is written, whatever the area.
+ * `block` and `rows` must not overlap `places`.
+ * Refusals 18, 19, 23, and then 17, place 0: fewer places than columns, and `more` is the count of
+ * columns. No word is written where the call is refused. */
+struct rkw_cells_answer rkw_read_row(const uint8_t *block, size_t len, const uint8_t *rows, size_t rows_len, uint32_t row, uint64_t *places, size_t words);
 
 /* The checksum of the bytes: polynomial EDB88320 hex, reflected, start 0, no inversion. Under 2^32. */
 uint64_t rkw_checksum(const uint8_t *bytes, size_t len);

@@ -1,6 +1,6 @@
 /* Calls every function of include/rekwonuda.h on a sample and prints what it got.
  * samples/mini.img has two real root-to-leaf paths and no block. A copy of it is given one: block 4,
- * whose 108 bytes are a small heap with two properties. */
+ * whose 108 bytes are a small heap with two properties. The table calls get a heap of their own. */
 #include "rekwonuda.h"
 
 #include <inttypes.h>
@@ -9,6 +9,8 @@
 
 enum { IMAGE = 27648, BLOCK = 4, OFFSET = 0x5800, SIZE = 108, ROOM = 128, ITEM = 0x60, LEAF = 0x5600 };
 enum { LISTED = 4, MOST = 4096, WORDS = 9, AREA = WORDS * (MOST + 1), VERSION = 10 };
+enum { COLUMNS = 4, CELL = 6, ROW = 18, LARGEST = 8176 };
+enum { TIME = 0x0E060040, NAME = 0x3001001F, FLAG = 0x360A000B, ID = 0x67F20003 };
 
 static uint8_t image[IMAGE + 1];
 static uint8_t filled[IMAGE];
@@ -27,6 +29,41 @@ static uint8_t heap[SIZE] = {
     0x38, 0x0E, 3, 0, 5, 0, 0, 0, 0x01, 0x30, 0x1F, 0, ITEM, 0, 0, 0,
 };
 static const uint8_t map[] = {3, 0, 0, 0, 12, 0, 20, 0, 36, 0, 96, 0};
+
+/* A table: five items, at 12, 66, 74, 106 and 180, and their map at 188. */
+static uint8_t table[] = {
+    188, 0, 0xEC, 0x7C, 0x20, 0, 0, 0, 0, 0, 0, 0, /* the user root is item 0x20 */
+    /* Item 0x20, the table record: four columns; 4- and 8-byte cells end at 16, 2-byte ones at 16,
+     * 1-byte ones and so all cells at 17, the row at 18; row index in item 0x40, rows in item 0x80. */
+    0x7C, COLUMNS, 16, 0, 16, 0, 17, 0, ROW, 0, 0x40, 0, 0, 0, 0x80, 0, 0, 0, 0, 0, 0, 0,
+    0x40, 0, 0x06, 0x0E, 8, 0, 8, 3, /* TIME: at 8, 8 bytes, bit 3 */
+    0x1F, 0, 0x01, 0x30, 4, 0, 4, 1, /* NAME: at 4, 4 bytes, bit 1 */
+    0x0B, 0, 0x0A, 0x36, 16, 0, 1, 2, /* FLAG: at 16, 1 byte, bit 2 */
+    0x03, 0, 0xF2, 0x67, 0, 0, 4, 0, /* ID: at 0, 4 bytes, bit 0 */
+    /* Item 0x40, the row index: keys of 4 bytes, entries of 4, no index level, root in item 0x60. */
+    0xB5, 4, 4, 0, 0x60, 0, 0, 0,
+    /* Item 0x60: an id and the number of its row, four times. */
+    0x62, 0x80, 0, 0, 2, 0, 0, 0, 0x82, 0x80, 0, 0, 0, 0, 0, 0,
+    0xA2, 0x80, 0, 0, 1, 0, 0, 0, 0xC2, 0x80, 0, 0, 3, 0, 0, 0,
+    /* Item 0x80, four rows of 18 bytes, each ID, NAME, TIME, FLAG and its existence byte, and two bytes
+     * left over. NAME stands in item 0xA0; is empty; stands in subnode 0x813F; and stands in an item that
+     * there is not. Row 1 has no TIME. */
+    0x82, 0x80, 0, 0, 0xA0, 0, 0, 0, 8, 7, 6, 5, 4, 3, 2, 1, 1, 0xF0,
+    0xA2, 0x80, 0, 0, 0, 0, 0, 0, 9, 9, 9, 9, 9, 9, 9, 9, 0, 0xE0,
+    0x62, 0x80, 0, 0, 0x3F, 0x81, 0, 0, 0, 0, 0, 0, 0, 0, 0, 0, 0, 0xF0,
+    0xC2, 0x80, 0, 0, 0, 0x10, 0, 0, 0, 0, 0, 0, 0, 0, 0, 0, 0, 0xF0,
+    0xFF, 0xFF,
+    't', 0, 'e', 0, 'x', 0, 't', 0, /* item 0xA0 */
+    5, 0, 0, 0, 12, 0, 66, 0, 74, 0, 106, 0, 180, 0, 188, 0,
+};
+
+/* Where some bytes of the table stand, for a test to change. */
+enum { CLIENT_KIND = 3, USER_ROOT = 4, INDEX_ITEM = 22, ROWS = 26, FIRST_BIT = 41, KEY_SIZE = 67, TABLE = 204 };
+_Static_assert(sizeof table == TABLE, "the map ends the table");
+
+/* Rows as the block of a subnode holds them: those of item 0x80, and behind them nothing. */
+static uint8_t rows[LARGEST + 1];
+static uint64_t cells[CELL * COLUMNS + 5];
 
 static void field(const char *name, uint64_t value) { printf(" %s %" PRIu64, name, value); }
 
@@ -183,6 +220,95 @@ static void call_find_property(uint16_t id)
     printf("\n");
 }
 
+static void call_table(size_t length)
+{
+    struct rkw_table_answer a = rkw_table(table, length);
+    refusal("rkw_table", a.refusal, a.place, a.more);
+    field("columns", a.columns);
+    field("row_size", a.row_size);
+    field("existence", a.existence);
+    field("rows_kind", a.rows_kind);
+    field("rows_value", a.rows_value);
+    printf("\n");
+}
+
+static void call_column(uint32_t index)
+{
+    struct rkw_column_answer a = rkw_column(table, TABLE, index);
+    refusal("rkw_column", a.refusal, a.place, a.more);
+    field("found", a.found);
+    field("tag", a.tag);
+    field("offset", a.offset);
+    field("width", a.width);
+    field("bit", a.bit);
+    printf("\n");
+}
+
+static void call_count_rows(size_t rows_length)
+{
+    struct rkw_count_answer a = rkw_count_rows(table, TABLE, rows, rows_length);
+    refusal("rkw_count_rows", a.refusal, a.place, a.more);
+    field("rows", a.rows);
+    printf("\n");
+}
+
+static void cell(const char *call, struct rkw_cell_answer a)
+{
+    refusal(call, a.refusal, a.place, a.more);
+    field("found", a.found);
+    field("kind", a.kind);
+    field("value", a.value);
+    printf("\n");
+}
+
+static void call_cell(size_t rows_length, uint32_t row, uint32_t tag)
+{
+    cell("rkw_cell", rkw_cell(table, TABLE, rows, rows_length, row, tag));
+}
+
+static void call_find_row(uint32_t id)
+{
+    struct rkw_row_answer a = rkw_find_row(table, TABLE, id);
+    refusal("rkw_find_row", a.refusal, a.place, a.more);
+    field("found", a.found);
+    field("row", a.row);
+    printf("\n");
+}
+
+/* Reads a row with an area of `words` words, and prints up to which word the area changed, and the
+ * places of the cells. */
+static void call_read_row(size_t rows_length, uint32_t row, size_t words)
+{
+    memset(cells, 0xAA, sizeof cells);
+    struct rkw_cells_answer a = rkw_read_row(table, TABLE, rows, rows_length, row, cells, words);
+    size_t written = sizeof cells / sizeof cells[0];
+    while (written && cells[written - 1] == UINT64_C(0xAAAAAAAAAAAAAAAA)) written--;
+    refusal("rkw_read_row", a.refusal, a.place, a.more);
+    field("found", a.found);
+    field("cells", a.cells);
+    field("written", written);
+    printf("\n");
+    for (size_t i = 0; i < a.cells; i++) {
+        struct rkw_cell_answer place;
+        memcpy(&place, cells + CELL * i, sizeof place);
+        cell("place", place);
+    }
+}
+
+/* Calls each of the table calls with another byte at that place of the table. */
+static void call_changed(size_t place, uint8_t byte)
+{
+    uint8_t before = table[place];
+    table[place] = byte;
+    call_table(TABLE);
+    call_column(0);
+    call_count_rows(0);
+    call_cell(0, 0, ID);
+    call_find_row(0x8082);
+    call_read_row(0, 0, CELL * COLUMNS);
+    table[place] = before;
+}
+
 /* A copy with another key in an entry of the node tree's first leaf, which is sealed again. */
 static void call_keyed(unsigned entry, uint64_t key)
 {
@@ -274,6 +400,61 @@ static void call_heap(void)
     call_find_property(0x3002);
 }
 
+static void call_tables(void)
+{
+    call_table(TABLE);
+    call_table(0);
+    call_column(0);
+    call_column(COLUMNS - 1);
+    call_column(COLUMNS);
+    call_count_rows(0);
+    for (uint32_t row = 0; row <= 4; row++) call_cell(0, row, NAME);
+    call_cell(0, 0, TIME);
+    call_cell(0, 1, TIME);
+    call_cell(0, 0, FLAG);
+    call_cell(0, 0, ID + 1);
+    call_find_row(0x8062);
+    call_find_row(0x8063);
+    call_read_row(0, 1, sizeof cells / sizeof cells[0]);
+    call_read_row(0, 3, CELL * COLUMNS);
+    call_read_row(0, 0, CELL * COLUMNS - 1);
+    call_read_row(0, 4, 0);
+}
+
+/* Each rule once that a call can break: a wrong client kind, user root, column, row index item, key size
+ * of the row index, and rows' item. */
+static void call_wrong_tables(void)
+{
+    call_changed(CLIENT_KIND, 0xBC);
+    call_changed(USER_ROOT, 0);
+    call_changed(FIRST_BIT, 2);
+    call_changed(INDEX_ITEM, 0);
+    call_changed(KEY_SIZE, 2);
+    call_changed(ROWS, 0xC0);
+}
+
+/* The table without rows, and with its rows in a subnode, of which two and a half are given. */
+static void call_rows(void)
+{
+    memcpy(rows, table + 106, 4 * ROW + 2);
+    table[ROWS] = 0;
+    call_table(TABLE);
+    call_count_rows(sizeof rows);
+    call_cell(sizeof rows, 0, ID);
+    call_read_row(sizeof rows, 0, 0);
+    table[ROWS] = 0x5F;
+    call_table(TABLE);
+    call_count_rows(2 * ROW + 9);
+    call_count_rows(LARGEST);
+    call_count_rows(sizeof rows);
+    call_cell(2 * ROW + 9, 1, ID);
+    call_cell(2 * ROW + 9, 2, ID);
+    call_cell(sizeof rows, 0, ID);
+    call_read_row(2 * ROW + 9, 0, CELL * COLUMNS);
+    call_read_row(sizeof rows, 0, 0);
+    table[ROWS] = 0x80;
+}
+
 int main(int count, char **words)
 {
     if (count != 2 || !load(words[1])) {
@@ -286,6 +467,9 @@ int main(int count, char **words)
     call_keys();
     call_blocks();
     call_heap();
+    call_tables();
+    call_wrong_tables();
+    call_rows();
     printf("rkw_checksum: %" PRIu64 "\n", rkw_checksum((const uint8_t *)"\x80", 1));
     printf("rkw_signature: %" PRIu64 "\n", rkw_signature(0x908A00, 0x1518));
     printf("rkw_room: %" PRIu64 "\n", rkw_room(4092));

@@ -20,8 +20,9 @@ macro_rules! answers {
             pub refusal: u64,
             /// The place of that fault: an offset in the image, or 0.
             pub place: u64,
-            /// What else the refusal says: for 17 the length needed or, of a list of nodes, a number of
-            /// places, for 11 and 21 the index of the first entry at fault, from 0, otherwise 0.
+            /// What else the refusal says: for 17 the length needed or, of a list of nodes and of a row
+            /// of cells, a number of places, for 11 and 21 the index of the first entry at fault, from 0,
+            /// otherwise 0.
             pub more: u64,
             $($(#[doc = $field_about])* pub $field: u64,)*
         }
@@ -143,5 +144,66 @@ answers! {
         kind,
         /// The value, or the number of what holds it.
         value,
+    }
+
+    /// What the record of a table says.
+    TableAnswer {
+        /// How many columns it has, at most 255.
+        columns,
+        /// How many bytes a row has.
+        row_size,
+        /// Where in a row its existence bytes begin.
+        existence,
+        /// Where the rows stand: 1 nowhere, 2 in a heap item, 3 in a subnode.
+        rows_kind,
+        /// The number of that item or subnode, or 0.
+        rows_value,
+    }
+
+    /// A column of a table.
+    ColumnAnswer {
+        /// 1 where it is there, 0 where it is absent.
+        found,
+        /// Its tag: a property id in the high two bytes, a type code in the low two.
+        tag,
+        /// Where in a row its cell begins.
+        offset,
+        /// How many bytes its cell has.
+        width,
+        /// Its existence bit.
+        bit,
+    }
+
+    /// The rows of a table.
+    CountAnswer {
+        /// How many there are.
+        rows,
+    }
+
+    /// A cell of a table.
+    CellAnswer {
+        /// 1 where it is there, 0 where it is absent.
+        found,
+        /// What `value` is: 0 the value itself, 1 nothing of an empty cell, 2 the number of a heap
+        /// item, 3 the number of a subnode, 4 nothing of a missing cell.
+        kind,
+        /// The value, or the number of what holds it.
+        value,
+    }
+
+    /// The row that the row index names for an id.
+    RowAnswer {
+        /// 1 where it names one, 0 where it does not.
+        found,
+        /// The row's number as stored.
+        row,
+    }
+
+    /// The cells of a row, in the caller's area.
+    CellsAnswer {
+        /// 1 where the row is there, 0 where it is absent.
+        found,
+        /// How many places of the area now hold a cell.
+        cells,
     }
 }

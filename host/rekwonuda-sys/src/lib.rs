@@ -5,8 +5,8 @@
 //! Rust's types on top.
 //!
 //! This is the only crate with `unsafe` code. The header asks a caller for three things: a pointer that
-//! is not null with its true length, an image or block that does not change during the call, and a
-//! buffer that does not overlap it. A `&` slice and a `&mut` slice are just that.
+//! is not null with its true length, an image, block or rows that do not change during the call, and a
+//! buffer or area that does not overlap them. A `&` slice and a `&mut` slice are just that.
 //!
 //! ```
 //! let answer = rekwonuda_sys::header(b"no image");
@@ -19,8 +19,9 @@
 mod answers;
 
 pub use answers::{
-    Answer, Answered, BlockAnswer, DataAnswer, HeaderAnswer, ItemAnswer, LengthAnswer, NodeAnswer,
-    PropertyAnswer, SizeAnswer,
+    Answer, Answered, BlockAnswer, CellAnswer, CellsAnswer, ColumnAnswer, CountAnswer, DataAnswer,
+    HeaderAnswer, ItemAnswer, LengthAnswer, NodeAnswer, PropertyAnswer, RowAnswer, SizeAnswer,
+    TableAnswer,
 };
 
 extern "C" {
@@ -60,6 +61,32 @@ extern "C" {
     fn rkw_test_item(block: *const u8, len: usize, item: u32) -> Answer;
     fn rkw_item(block: *const u8, len: usize, item: u32) -> ItemAnswer;
     fn rkw_find_property(block: *const u8, len: usize, id: u16) -> PropertyAnswer;
+    fn rkw_table(block: *const u8, len: usize) -> TableAnswer;
+    fn rkw_column(block: *const u8, len: usize, index: u32) -> ColumnAnswer;
+    fn rkw_count_rows(
+        block: *const u8,
+        len: usize,
+        rows: *const u8,
+        rows_len: usize,
+    ) -> CountAnswer;
+    fn rkw_cell(
+        block: *const u8,
+        len: usize,
+        rows: *const u8,
+        rows_len: usize,
+        row: u32,
+        tag: u32,
+    ) -> CellAnswer;
+    fn rkw_find_row(block: *const u8, len: usize, id: u32) -> RowAnswer;
+    fn rkw_read_row(
+        block: *const u8,
+        len: usize,
+        rows: *const u8,
+        rows_len: usize,
+        row: u32,
+        places: *mut u64,
+        words: usize,
+    ) -> CellsAnswer;
     fn rkw_checksum(bytes: *const u8, len: usize) -> u64;
     fn rkw_signature(offset: u64, number: u64) -> u64;
     fn rkw_room(size: u32) -> u64;
@@ -194,6 +221,66 @@ pub fn item(block: &[u8], item: u32) -> ItemAnswer {
 pub fn find_property(block: &[u8], id: u16) -> PropertyAnswer {
     // SAFETY: the pointer and the length are those of one slice.
     unsafe { rkw_find_property(block.as_ptr(), block.len(), id) }
+}
+
+/// Tests the table on the block and says what its record says. Refusals 18, 19 and 23.
+pub fn table(block: &[u8]) -> TableAnswer {
+    // SAFETY: the pointer and the length are those of one slice.
+    unsafe { rkw_table(block.as_ptr(), block.len()) }
+}
+
+/// The column of that index, in stored order. Refusals 18, 19 and 23.
+pub fn column(block: &[u8], index: u32) -> ColumnAnswer {
+    // SAFETY: the pointer and the length are those of one slice.
+    unsafe { rkw_column(block.as_ptr(), block.len(), index) }
+}
+
+/// Counts the rows. `rows` is looked at only where they stand in a subnode. Refusals 18, 19 and 23.
+pub fn count_rows(block: &[u8], rows: &[u8]) -> CountAnswer {
+    // SAFETY: each pointer and its length are those of one slice.
+    unsafe { rkw_count_rows(block.as_ptr(), block.len(), rows.as_ptr(), rows.len()) }
+}
+
+/// The cell of a row in the column of that tag. Refusals 18, 19 and 23.
+pub fn cell(block: &[u8], rows: &[u8], row: u32, tag: u32) -> CellAnswer {
+    let (start, length) = (rows.as_ptr(), rows.len());
+    // SAFETY: each pointer and its length are those of one slice.
+    unsafe { rkw_cell(block.as_ptr(), block.len(), start, length, row, tag) }
+}
+
+/// Looks up in the row index which row has that id. Refusals 18, 19 and 23.
+pub fn find_row(block: &[u8], id: u32) -> RowAnswer {
+    // SAFETY: the pointer and the length are those of one slice.
+    unsafe { rkw_find_row(block.as_ptr(), block.len(), id) }
+}
+
+/// The most columns that a table has, and so the most places that [`read_row`] fills.
+pub const MOST_COLUMNS: usize = 255;
+
+/// Puts all cells of a row, each as [`cell`] answers it, into places of [`CellAnswer::WORDS`] words, in
+/// the order of the columns. Refusals 17, 18, 19 and 23.
+///
+/// ```
+/// use rekwonuda_sys::{read_row, CellAnswer, MOST_COLUMNS};
+///
+/// let mut places = [[0; CellAnswer::WORDS]; MOST_COLUMNS];
+/// let answer = read_row(b"no table", b"", 0, places.as_flattened_mut());
+/// assert_eq!((answer.refusal, answer.cells), (18, 0));
+/// ```
+pub fn read_row(block: &[u8], rows: &[u8], row: u32, places: &mut [u64]) -> CellsAnswer {
+    let (start, words) = (places.as_mut_ptr(), places.len());
+    // SAFETY: each pointer and its length are those of one slice, and `places` is borrowed for writing alone.
+    unsafe {
+        rkw_read_row(
+            block.as_ptr(),
+            block.len(),
+            rows.as_ptr(),
+            rows.len(),
+            row,
+            start,
+            words,
+        )
+    }
 }
 
 /// The checksum of the bytes. Under 2^32.

@@ -2,8 +2,9 @@
 //! each call's parameters and answer. A linker would let a difference pass.
 
 use rekwonuda_sys::{
-    Answer, BlockAnswer, DataAnswer, HeaderAnswer, ItemAnswer, LengthAnswer, NodeAnswer,
-    PropertyAnswer, SizeAnswer,
+    Answer, BlockAnswer, CellAnswer, CellsAnswer, ColumnAnswer, CountAnswer, DataAnswer,
+    HeaderAnswer, ItemAnswer, LengthAnswer, NodeAnswer, PropertyAnswer, RowAnswer, SizeAnswer,
+    TableAnswer,
 };
 
 const HEADER: &str = include_str!("../../../include/rekwonuda.h");
@@ -19,6 +20,12 @@ const STRUCTS: &[(&str, &[&str])] = &[
     ("DataAnswer", DataAnswer::NAMES),
     ("ItemAnswer", ItemAnswer::NAMES),
     ("PropertyAnswer", PropertyAnswer::NAMES),
+    ("TableAnswer", TableAnswer::NAMES),
+    ("ColumnAnswer", ColumnAnswer::NAMES),
+    ("CountAnswer", CountAnswer::NAMES),
+    ("CellAnswer", CellAnswer::NAMES),
+    ("RowAnswer", RowAnswer::NAMES),
+    ("CellsAnswer", CellsAnswer::NAMES),
 ];
 
 /// `struct rkw_node_answer` as `NodeAnswer`, `uint64_t` as `u64` and so on.

@@ -1,8 +1,9 @@
 //! A list of nodes in one call: what stands in each place, and what is left alone.
 
 use rekwonuda_sys::{
-    find_node, find_nodes, Answer, BlockAnswer, DataAnswer, HeaderAnswer, ItemAnswer, LengthAnswer,
-    NodeAnswer, PropertyAnswer, SizeAnswer, MOST_NODES,
+    find_node, find_nodes, Answer, BlockAnswer, CellAnswer, CellsAnswer, ColumnAnswer, CountAnswer,
+    DataAnswer, HeaderAnswer, ItemAnswer, LengthAnswer, NodeAnswer, PropertyAnswer, RowAnswer,
+    SizeAnswer, TableAnswer, MOST_NODES,
 };
 
 /// What stands in an area before a call.
@@ -37,9 +38,10 @@ macro_rules! comes_back {
 fn an_answer_is_its_fields_in_their_order() {
     comes_back! {
         Answer HeaderAnswer NodeAnswer BlockAnswer SizeAnswer LengthAnswer DataAnswer ItemAnswer
-        PropertyAnswer
+        PropertyAnswer TableAnswer ColumnAnswer CountAnswer CellAnswer RowAnswer CellsAnswer
     }
     assert_eq!(NodeAnswer::WORDS, 9);
+    assert_eq!(CellAnswer::WORDS, 6);
 }
 
 #[test]
