@@ -73,7 +73,8 @@ faults! {
     15 BlockChecksum,
     /// 16: the shape of a data tree is wrong; at its root block.
     16 DataTree,
-    /// 17: the buffer is shorter than the data.
+    /// 17: the buffer is shorter than the data. No call of this crate that lends a buffer of its own
+    /// meets it.
     17 ShortBuffer,
     /// 18: the shape of a heap is wrong.
     18 HeapShape,
@@ -83,4 +84,6 @@ faults! {
     20 PropertyTree,
     /// 21: a key lies outside the range of its page.
     21 KeyRange,
+    /// 23: the shape of a table is wrong.
+    23 TableShape,
 }

@@ -166,7 +166,7 @@ impl<'a> Heap<'a> {
 /// for property in Heap::new(&data).properties() {
 ///     ids.push(property?.id);
 /// }
-/// assert_eq!(ids, [0x0FF9, 0x3001, 0x35DF, 0x6633, 0x67FF]);
+/// assert_eq!(ids, [0x0FF9, 0x3001, 0x35DF, 0x35E0, 0x35E3, 0x35E7, 0x6633, 0x67FF]);
 /// # Ok::<(), Box<dyn std::error::Error>>(())
 /// ```
 #[derive(Clone, Debug)]

@@ -81,6 +81,44 @@ id! {
     ItemId(u32)
 }
 
+id! {
+    /// The tag of a column: the id of a property in the high two bytes, its type code in the low two.
+    ///
+    /// ```
+    /// use rekwonuda::Tag;
+    ///
+    /// let name = Tag::new(0x3001, 0x1F);
+    /// assert_eq!(name, Tag(0x3001_001F));
+    /// assert_eq!((name.id(), name.type_code()), (0x3001, 0x1F));
+    /// ```
+    Tag(u32)
+}
+
+impl Tag {
+    /// The tag of the number that each row of a table is known by; see [`Table::find_row`].
+    ///
+    /// [`Table::find_row`]: crate::Table::find_row
+    pub const ROW_ID: Self = Self::new(0x67F2, 3);
+
+    /// The tag of a property of that id and type.
+    #[must_use]
+    pub const fn new(id: u16, type_code: u16) -> Self {
+        Self((id as u32) << 16 | type_code as u32)
+    }
+
+    /// The id of its property.
+    #[must_use]
+    pub const fn id(self) -> u16 {
+        (self.0 >> 16) as u16
+    }
+
+    /// The type code of its property.
+    #[must_use]
+    pub const fn type_code(self) -> u16 {
+        self.0 as u16
+    }
+}
+
 impl BlockId {
     /// Whether the block is internal: it names other blocks, and is never encoded. Bit 1 of the number
     /// says so.

@@ -22,8 +22,9 @@
 //! Every answer and every refusal is that of the proved library `rkw`, which is called through crate
 //! `rekwonuda-sys`. This crate gives its calls Rust's types. Code of its own, tested and not proved, are
 //! the words of a refusal and what is put together from several proved answers: the iterators
-//! [`Image::nodes`], [`Image::blocks`] and [`Heap::properties`], the pieces of [`Image::find_nodes`], and
-//! the buffers of [`Image::block_data`] and [`Image::node_data`]. Two calls read bytes of the image by
+//! [`Image::nodes`], [`Image::blocks`], [`Heap::properties`] and [`Table::columns`], the scan of
+//! [`Table::find_column`], the pieces of [`Image::find_nodes`], the buffers of [`Image::block_data`] and
+//! [`Image::node_data`], and that a table lacks its rows. Two calls read bytes of the image by
 //! themselves: [`Image::data_blocks`] a list of blocks, [`Image::wrong_node_key`] and its like the pages
 //! of a tree.
 #![deny(missing_docs)]
@@ -42,16 +43,18 @@ mod image;
 mod list;
 mod method;
 mod refusal;
+mod table;
 mod wrong_key;
 
 pub use entry::{Block, Header, Lookup, Node, PageReference};
 pub use fault::Fault;
 pub use heap::{Heap, Properties, Property, Value};
-pub use id::{BlockId, ItemId, NodeId};
+pub use id::{BlockId, ItemId, NodeId, Tag};
 pub use image::Image;
 pub use list::{Blocks, Nodes};
 pub use method::Method;
 pub use refusal::Refusal;
+pub use table::{Cell, Column, Columns, RowsPlace, Table, TableRecord};
 pub use wrong_key::{Key, WrongKey, WrongKeys};
 
 use rekwonuda_sys as sys;

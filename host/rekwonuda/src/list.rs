@@ -8,7 +8,7 @@ use std::iter::FusedIterator;
 ///
 /// let bytes = std::fs::read("../../samples/office.pst")?;
 /// let nodes: Result<Vec<Node>, Refusal> = Image::new(&bytes).nodes().collect();
-/// assert_eq!(nodes?.len(), 20);
+/// assert_eq!(nodes?.len(), 60);
 /// # Ok::<(), Box<dyn std::error::Error>>(())
 /// ```
 #[derive(Clone, Debug)]

@@ -62,6 +62,7 @@ impl Refusal {
             Fault::HeapShape => "the shape of a heap is wrong",
             Fault::HeapItem => "a number names no item of the heap",
             Fault::PropertyTree => "the shape of a property tree is wrong",
+            Fault::TableShape => "the shape of a table is wrong",
             _ => self.meaning_in_tree(),
         }
     }
@@ -111,7 +112,8 @@ impl Refusal {
             | Fault::ShortBuffer
             | Fault::HeapShape
             | Fault::HeapItem
-            | Fault::PropertyTree => false,
+            | Fault::PropertyTree
+            | Fault::TableShape => false,
             Fault::Encoding => self.place != 0,
             _ => true,
         }

@@ -15,7 +15,7 @@ const MOST_LEVEL: u8 = 7;
 /// use rekwonuda::{checksum, Image, Key};
 ///
 /// let mut bytes = std::fs::read("../../samples/office.pst")?;
-/// let page = 0x8200; // the second leaf of the block tree
+/// let page = 0xB000; // the second leaf of the block tree
 /// bytes[page] = 0x51; // the key of its first entry, 0x54
 /// let sum = checksum(&bytes[page..page + 496]);
 /// bytes[page + 500..page + 504].copy_from_slice(&sum.to_le_bytes());
@@ -40,15 +40,15 @@ pub struct Key {
 /// use rekwonuda::{checksum, Image};
 ///
 /// let mut bytes = std::fs::read("../../samples/office.pst")?;
-/// let page = 0x8800; // the second leaf of the node tree
-/// bytes[page] = 0x23; // the low byte of its first key, 0x200124
+/// let page = 0xB800; // the second leaf of the node tree
+/// bytes[page] = 0x2C; // the low byte of its first key, 0x802D
 /// let sum = checksum(&bytes[page..page + 496]);
 /// bytes[page + 500..page + 504].copy_from_slice(&sum.to_le_bytes());
 /// let image = Image::new(&bytes);
 /// let refusal = image.check_nodes().unwrap_err();
 /// let wrong = image.wrong_node_key(&refusal).expect("a key is at fault");
-/// assert_eq!((wrong.entry, wrong.key.compared), (0, 0x20_0123));
-/// assert_eq!((wrong.from, wrong.to), (0x20_0124, None));
+/// assert_eq!((wrong.entry, wrong.key.compared), (0, 0x802C));
+/// assert_eq!((wrong.from, wrong.to), (0x802D, Some(0x80A2)));
 /// # Ok::<(), std::io::Error>(())
 /// ```
 #[non_exhaustive]

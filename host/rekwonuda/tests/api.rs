@@ -248,6 +248,7 @@ fn refusals_say_what_is_wrong_and_where() {
         "refusal 2: the file does not begin with the mark of a .pst file; at 0x0 (0)"
     );
     assert_eq!(said(5, 0, 0), "refusal 5: the encoding method is over 2");
+    assert_eq!(said(23, 0, 0), "refusal 23: the shape of a table is wrong");
     assert_eq!(said(11, 0x4E00, 3), "refusal 11: an entry's key is not above the one before it, as in a page that was shuffled or overwritten; entry 3 (counted from 0) of the page at 0x4e00 (19968)");
     assert_eq!(said(21, 0x4E00, 0), "refusal 21: a key lies outside its page's range, as in a stale page: one of another place or time; entry 0 (counted from 0) of the page at 0x4e00 (19968)");
     assert_eq!(
@@ -256,27 +257,36 @@ fn refusals_say_what_is_wrong_and_where() {
     );
 }
 
+/// Every fault and its number, as the proved library gives them.
+fn proved_faults() -> Vec<(&'static str, u64)> {
+    let source = include_str!("../../../crates/refusal/src/lib.rt");
+    let arms = source.lines().filter_map(|line| {
+        let (name, number) = line.trim().strip_prefix("Fault::")?.split_once(" => ")?;
+        Some((name, number.strip_suffix(',')?.parse().ok()?))
+    });
+    arms.collect()
+}
+
 #[test]
 fn faults_are_those_of_the_proved_library() {
-    let source = include_str!("../../../crates/refusal/src/lib.rt");
-    let (_, behind) = source.split_once("pub enum Fault {").unwrap();
-    let (names, _) = behind.split_once('}').unwrap();
-    let names: Vec<&str> = names.split(',').map(str::trim).collect();
-    let (last, names) = names.split_last().unwrap();
-    assert_eq!((*last, names.len()), ("", 21));
-    for (name, number) in names.iter().zip(1..) {
-        let fault = Fault::from(number);
+    let proved = proved_faults();
+    assert_eq!(proved.len(), 22);
+    for (name, number) in &proved {
+        let fault = Fault::from(*number);
         let refusal = Refusal {
             fault,
             place: 0,
             more: 0,
         };
         assert_eq!(format!("{fault:?}"), *name);
-        assert_eq!(fault.number(), number);
+        assert_eq!(fault.number(), *number);
         assert_ne!(refusal.meaning(), "a fault without a name");
     }
-    for number in [0, 22, u64::MAX] {
-        assert_eq!(Fault::from(number).number(), number);
+    for number in (0..99).chain([u64::MAX]) {
+        let fault = Fault::from(number);
+        let is_named = proved.iter().any(|(_, proved)| *proved == number);
+        assert_eq!(fault.number(), number);
+        assert_eq!(matches!(fault, Fault::Unnamed(_)), !is_named);
     }
 }
 

@@ -7,11 +7,12 @@ use model::page::Tree;
 use model::random::Random;
 use rekwonuda::{BlockId, Fault, Image, Key, NodeId, Refusal, WrongKey, WrongKeys};
 
-/// The pages of samples/office.pst. Each tree is a root with two leaves.
-const NODE_ROOT: usize = 0x8A00;
-const NODE_LEAVES: [usize; 2] = [0x8600, 0x8800];
-const BLOCK_ROOT: usize = 0x8400;
-const BLOCK_LEAVES: [usize; 2] = [0x8000, 0x8200];
+/// Pages of samples/office.pst. Each tree is a root with some leaves, of which these are the first and
+/// the last.
+const NODE_ROOT: usize = 0xBE00;
+const NODE_LEAF: usize = 0xB600;
+const BLOCK_ROOT: usize = 0xB400;
+const BLOCK_LEAVES: [usize; 2] = [0xAE00, 0xB200];
 
 fn office() -> Vec<u8> {
     let path = concat!(env!("CARGO_MANIFEST_DIR"), "/../../samples/office.pst");
@@ -80,43 +81,40 @@ fn told(wrong: &WrongKey) -> Told {
 
 #[test]
 fn a_shuffled_page_shows_both_keys() {
-    let page = NODE_LEAVES[0];
-    let wrong = found(
-        &with_keys(page, 32, &[(3, 0x8062), (4, 0x8022)]),
-        Tree::Nodes,
-    );
-    let expected = (Fault::KeyOrder, page, 0, 15, 4, 0x21, Some(0x20_0124));
+    let page = NODE_LEAF;
+    let exchanged = with_keys(page, 32, &[(3, 0x12E), (4, 0x12D)]);
+    let wrong = found(&exchanged, Tree::Nodes);
+    let expected = (Fault::KeyOrder, page, 0, 15, 4, 0x21, Some(0x802D));
     assert_eq!(told(&wrong), expected);
-    assert_eq!((wrong.key, wrong.before), (key(0x8022), Some(key(0x8062))));
+    assert_eq!((wrong.key, wrong.before), (key(0x12D), Some(key(0x12E))));
 }
 
 #[test]
 fn a_root_page_may_hold_every_key() {
     let wrong = found(&with_keys(NODE_ROOT, 24, &[(1, 0x21)]), Tree::Nodes);
-    let expected = (Fault::KeyOrder, NODE_ROOT, 1, 2, 1, 0, None);
+    let expected = (Fault::KeyOrder, NODE_ROOT, 1, 4, 1, 0, None);
     assert_eq!(told(&wrong), expected);
     assert_eq!((wrong.key, wrong.before), (key(0x21), Some(key(0x21))));
 }
 
 #[test]
 fn a_key_outside_the_range_shows_the_range() {
-    let page = NODE_LEAVES[0];
-    let wrong = found(&with_keys(page, 32, &[(14, 0x20_0124)]), Tree::Nodes);
-    let expected = (Fault::KeyRange, page, 0, 15, 14, 0x21, Some(0x20_0124));
+    let page = NODE_LEAF;
+    let wrong = found(&with_keys(page, 32, &[(14, 0x802D)]), Tree::Nodes);
+    let expected = (Fault::KeyRange, page, 0, 15, 14, 0x21, Some(0x802D));
     assert_eq!(told(&wrong), expected);
-    assert_eq!(wrong.key, key(0x20_0124));
-    assert_eq!(wrong.before, Some(key(0x20_00E4)));
+    assert_eq!((wrong.key, wrong.before), (key(0x802D), Some(key(0x692))));
 
     let page = BLOCK_LEAVES[1];
-    let wrong = found(&with_keys(page, 24, &[(0, 0x50)]), Tree::Blocks);
-    let expected = (Fault::KeyRange, page, 0, 2, 0, 0x54, None);
+    let wrong = found(&with_keys(page, 24, &[(0, 0xA0)]), Tree::Blocks);
+    let expected = (Fault::KeyRange, page, 0, 5, 0, 0xA4, None);
     assert_eq!(told(&wrong), expected);
-    assert_eq!((wrong.key, wrong.before), (key(0x50), None));
+    assert_eq!((wrong.key, wrong.before), (key(0xA0), None));
 }
 
 #[test]
 fn keys_are_told_as_stored_and_as_compared() {
-    let page = NODE_LEAVES[0];
+    let page = NODE_LEAF;
     let stored = 0xABCD_0000_0000_0061;
     let wrong = found(&with_keys(page, 32, &[(2, stored)]), Tree::Nodes);
     assert_eq!((wrong.fault, wrong.entry), (Fault::KeyOrder, 2));
@@ -150,7 +148,8 @@ fn of_two_references_the_one_that_is_refused_is_told() {
     image.copy_within(reference, NODE_ROOT + 24 + 8);
     seal_page(&mut image, NODE_ROOT);
     let wrong = found(&image, Tree::Nodes);
-    let expected = (Fault::KeyRange, NODE_LEAVES[0], 0, 15, 0, 0x20_0124, None);
+    let range = (0x802D, Some(0x80A2));
+    let expected = (Fault::KeyRange, NODE_LEAF, 0, 15, 0, range.0, range.1);
     assert_eq!(told(&wrong), expected);
 }
 
@@ -320,7 +319,7 @@ fn a_refusal_by_a_key_is_told_on_damaged_images() {
 
 #[test]
 fn a_refusal_of_another_kind_or_place_names_no_key() {
-    let image = with_keys(NODE_LEAVES[0], 32, &[(2, 0x61)]);
+    let image = with_keys(NODE_LEAF, 32, &[(2, 0x61)]);
     let refusal = check(&image, Tree::Nodes).unwrap_err();
     let of = Image::new(&image);
     assert!(of.wrong_node_key(&refusal).is_some());
@@ -351,7 +350,7 @@ fn a_refusal_of_another_kind_or_place_names_no_key() {
 
 /// The sample with a leaf whose keys are at fault, and which an edit then lets fail an earlier test.
 fn refused_earlier(number: u64, edit: impl Fn(&mut Vec<u8>)) {
-    let mut image = with_keys(NODE_LEAVES[0], 32, &[(2, 0x61)]);
+    let mut image = with_keys(NODE_LEAF, 32, &[(2, 0x61)]);
     edit(&mut image);
     let refusal = check(&image, Tree::Nodes).unwrap_err();
     assert_eq!(refusal.number(), number);
@@ -360,10 +359,10 @@ fn refused_earlier(number: u64, edit: impl Fn(&mut Vec<u8>)) {
 
 #[test]
 fn the_other_tests_of_a_page_come_before_its_keys() {
-    let leaf = NODE_LEAVES[0];
-    for offset in [0x4200, 0x8C20] {
+    let leaf = NODE_LEAF;
+    for offset in [0x4200, 0xC020] {
         refused_earlier(6, |image| {
-            image.resize(0x8E20, 0);
+            image.resize(0xC220, 0);
             image.copy_within(leaf..leaf + 512, offset);
             seal_page(image, offset);
             put(image, NODE_ROOT + 16, offset as u64);
