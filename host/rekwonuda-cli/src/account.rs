@@ -19,6 +19,8 @@ pub enum Spot {
     Data(Node),
     /// A heap in the data of a node, with the length of that data.
     Heap(Node, usize),
+    /// Such a heap that is a table.
+    Table(Node, usize),
 }
 
 /// A refusal in words: what is wrong, where, and what to do next.
@@ -108,7 +110,9 @@ fn about(
             ),
             ("node_count", users.count.into()),
         ]),
-        Spot::Data(node) | Spot::Heap(node, _) => about.push(("node", node.id.0.into())),
+        Spot::Data(node) | Spot::Heap(node, _) | Spot::Table(node, _) => {
+            about.push(("node", node.id.0.into()));
+        }
     }
     about
 }

@@ -55,6 +55,8 @@ const TWO_LEVELS: &str =
     more than 8,347,696 bytes; this reader covers one level. That is no fault of the file.";
 const BAD_PROPERTIES: &str = "The node's data is what was written: its blocks are sound. But what \
     was written is no sound list of properties. The command `node` writes it out as it is.";
+const BAD_TABLE: &str = "The node's data is what was written: its blocks are sound. But what was \
+    written is no sound table. The command `node` writes it out as it is.";
 
 /// Whether the refusal is one of damage, or of something that is not covered.
 pub fn outcome(source: &Source, refusal: &Refusal, spot: &Spot) -> Outcome {
@@ -92,6 +94,7 @@ pub fn advice(source: &Source, refusal: &Refusal, spot: &Spot) -> &'static str {
         (Fault::Version, _) if first_checksum_fits(source) => OTHER_EDITION,
         (Fault::Version, _) if edition(version(source)).is_some() => EDITION_OR_DAMAGE,
         (Fault::DataTree, _) if has_two_levels(source, spot) => TWO_LEVELS,
+        (Fault::TableShape, _) | (Fault::HeapShape | Fault::HeapItem, Spot::Table(..)) => BAD_TABLE,
         (Fault::HeapShape | Fault::HeapItem | Fault::PropertyTree, _) => BAD_PROPERTIES,
         (Fault::KeyOrder, _) => SHUFFLED_PAGE,
         (Fault::KeyRange, _) => STALE_PAGE,

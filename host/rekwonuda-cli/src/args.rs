@@ -13,7 +13,8 @@ Exit status:
   2  wrong usage, or a file cannot be read or written
   3  what was asked for is absent
   4  not covered: another edition, a file over 1 GiB, a data tree of two
-     levels, a heap of several blocks, a node of another kind";
+     levels, a heap of several blocks, rows in a subnode, a node of
+     another kind";
 
 const NOTES: &str = "\
 Every answer is given by a library that is proved to answer rightly for any bytes. \
@@ -70,6 +71,20 @@ pub enum Command {
     Node(NodeArguments),
     /// List the properties of a node
     Props(PropsArguments),
+    /// Show the table of a node: a line for each row
+    ///
+    /// The row's id, `LtpRowId`, comes first: of a hierarchy table the number of a folder, of a contents
+    /// table that of a message. Columns are named as MS-PST names them, without `PidTag` in front, or by
+    /// their tags. On a screen columns without any value are left out, and long text is cut; a terminal
+    /// gets lines of its width, and behind `| less -S` they are whole. The hierarchy table of a folder is
+    /// the node with the folder's number plus 0xb, its contents table the one with that plus 0xc.
+    Table(TableArguments),
+    /// Show the tree of folders, with their names and how many messages each has
+    ///
+    /// It begins with the root folder, node 0x122, and follows the hierarchy tables. Messages are counted
+    /// in the contents tables; unread ones are as stated where the folder is listed. What cannot be read
+    /// is marked with ! and named, and the rest is shown.
+    Folders(FileArgument),
 }
 
 #[derive(Args)]
@@ -151,22 +166,51 @@ pub struct PropsArguments {
     pub node: u32,
 }
 
+#[derive(Args)]
+#[command(after_long_help = STATUS)]
+pub struct TableArguments {
+    /// The .pst file, or - for standard input
+    pub file: PathBuf,
+    /// The number of the node, as 32813 or 0x802d
+    #[arg(value_name = "NID", value_parser = node_number)]
+    pub node: u32,
+    /// Answer in CSV
+    ///
+    /// All columns and rows, whole, as RFC 4180 has them. Text stands as it is in the file, also where it
+    /// begins with =, +, - or @, which a spreadsheet may take for a formula. What would steer a terminal is
+    /// escaped where standard output is one.
+    #[arg(long)]
+    pub csv: bool,
+}
+
 impl Arguments {
     /// Whether arguments that are right one by one are right together.
     pub fn agree(self) -> Result<Self, clap::Error> {
-        let Command::Find(find) = &self.command else {
-            return Ok(self);
-        };
-        let wrong = match find.nodes.as_slice() {
-            [Asked::Standard] if is_standard(&find.file) => {
-                "standard input can be read once, and both FILE and NUMBER are -"
+        let wrong = match &self.command {
+            Command::Find(find) => find.wrong_together(),
+            Command::Table(table) if table.csv && self.json => {
+                Some("an answer is in CSV or in JSON, and both are asked for")
             }
-            [_, _, ..] if find.nodes.contains(&Asked::Standard) => {
-                "a NUMBER of - stands for all numbers, and others are given beside it"
-            }
-            _ => return Ok(self),
+            _ => None,
         };
-        Err(Self::command().error(ErrorKind::ArgumentConflict, wrong))
+        match wrong {
+            Some(wrong) => Err(Self::command().error(ErrorKind::ArgumentConflict, wrong)),
+            None => Ok(self),
+        }
+    }
+}
+
+impl FindArguments {
+    fn wrong_together(&self) -> Option<&'static str> {
+        match self.nodes.as_slice() {
+            [Asked::Standard] if is_standard(&self.file) => {
+                Some("standard input can be read once, and both FILE and NUMBER are -")
+            }
+            [_, _, ..] if self.nodes.contains(&Asked::Standard) => {
+                Some("a NUMBER of - stands for all numbers, and others are given beside it")
+            }
+            _ => None,
+        }
     }
 }
 
@@ -180,6 +224,8 @@ impl Command {
             Command::Find(_) => "find",
             Command::Node(_) => "node",
             Command::Props(_) => "props",
+            Command::Table(_) => "table",
+            Command::Folders(_) => "folders",
         }
     }
 }

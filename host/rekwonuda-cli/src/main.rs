@@ -5,10 +5,15 @@ mod account;
 mod advice;
 mod args;
 mod check;
+mod contexts;
 mod find;
+mod folder;
+mod folders;
+mod grid;
 mod info;
 mod keys;
 mod list;
+mod listing;
 mod many;
 mod names;
 mod node;
@@ -20,8 +25,12 @@ mod props;
 mod report;
 mod search;
 mod source;
+mod table;
+mod tags;
 mod tree;
+mod troubles;
 mod users;
+mod values;
 mod walk;
 mod words;
 mod write;
@@ -55,10 +64,14 @@ fn answer(arguments: &Arguments) -> Outcome {
     let path = match command {
         Command::Check(check) if many::is_many(check) => return many::check_many(check, form),
         Command::Check(check) => &check.paths[0],
-        Command::Info(file) | Command::Nodes(file) | Command::Blocks(file) => &file.file,
+        Command::Info(file)
+        | Command::Nodes(file)
+        | Command::Blocks(file)
+        | Command::Folders(file) => &file.file,
         Command::Find(find) => &find.file,
         Command::Node(node) => &node.file,
         Command::Props(props) => &props.file,
+        Command::Table(table) => &table.file,
     };
     let begun = Output::standard(form, Some(command.name())).and_then(|mut out| {
         out.name("file", path)?;
@@ -94,6 +107,8 @@ fn run(command: &Command, source: &Source, out: &mut Output<'_>) -> Result<Outco
         Command::Find(arguments) => find::find(source, arguments, out),
         Command::Node(arguments) => node::node(source, arguments, out),
         Command::Props(arguments) => props::props(source, arguments, out),
+        Command::Table(arguments) => table::table(source, arguments, out),
+        Command::Folders(_) => folders::folders(source, out),
     }
 }
 

@@ -26,6 +26,15 @@ pub fn shown(path: &Path) -> String {
     text
 }
 
+/// Text of a file on one line, for a terminal: what would steer it is escaped.
+pub fn on_one_line(text: &str) -> String {
+    let mut plain = String::new();
+    for character in text.chars() {
+        push(&mut plain, character);
+    }
+    plain
+}
+
 /// Text of several lines that may quote a name.
 pub fn escaped(text: &str) -> String {
     let mut plain = String::new();
@@ -81,6 +90,11 @@ mod tests {
         assert_eq!(shown(named(b"a\x1b[31m\n\\b")), "a\\u{1b}[31m\\n\\\\b");
         assert_eq!(shown(Path::new("a\u{202E}tsp.b")), "a\\u{202e}tsp.b");
         assert_eq!(shown(named(b"a\xFFb\xC3")), "a\\xffb\\xc3");
+        assert_eq!(
+            on_one_line("a\n\u{9B}31m\\\u{e9}"),
+            "a\\n\\u{9b}31m\\\\\u{e9}"
+        );
+        assert_eq!(escaped("a\n\x1b"), "a\n\\u{1b}");
     }
 
     #[test]

@@ -43,15 +43,16 @@ pub fn node(
 pub fn read(source: &Source, number: u32) -> Result<(Node, Vec<u8>), Failure> {
     let image = source.image();
     let id = NodeId(number);
-    let absent = || {
-        Failure::Absent(format!(
-            "node {id} is absent: the node tree is sound as far as it was read, and does not list it"
-        ))
-    };
     let found = image.find_node(id).at(Spot::NodeTree)?;
-    let node = found.entry.ok_or_else(absent)?;
+    let node = found.entry.ok_or_else(|| absent(id))?;
     let data = image.node_data(id).at(Spot::Data(node))?;
-    Ok((node, data.ok_or_else(absent)?))
+    Ok((node, data.ok_or_else(|| absent(id))?))
+}
+
+pub fn absent(id: NodeId) -> Failure {
+    Failure::Absent(format!(
+        "node {id} is absent: the node tree is sound as far as it was read, and does not list it"
+    ))
 }
 
 fn told(path: &Path, data: &[u8], out: &mut Output<'_>) -> Result<(), Failure> {

@@ -181,7 +181,8 @@ impl<'a> Output<'a> {
         Ok(())
     }
 
-    fn message(&mut self, message: &str) -> Result<(), Failure> {
+    /// Says why an answer is not whole, or is none.
+    pub fn message(&mut self, message: &str) -> Result<(), Failure> {
         self.sink.flush()?;
         if self.form == Form::Text {
             complain(message);

@@ -141,7 +141,9 @@ fn in_blocks(source: &Source, refusal: &Refusal, spot: &Spot) -> String {
             let listed = listed_block(source, refusal, block);
             format!("{listed}; {}", users.text())
         }
-        Spot::Data(node) | Spot::Heap(node, _) => block_of_node(source, refusal, node),
+        Spot::Data(node) | Spot::Heap(node, _) | Spot::Table(node, _) => {
+            block_of_node(source, refusal, node)
+        }
         _ => place(refusal.place),
     }
 }
@@ -186,7 +188,7 @@ fn data_of(node: &Node) -> String {
 
 fn in_heap(spot: &Spot) -> String {
     match spot {
-        Spot::Heap(node, length) => {
+        Spot::Heap(node, length) | Spot::Table(node, length) => {
             format!("{}, of {}", data_of(node), counted(*length as u64, "byte"))
         }
         _ => "the data of a node".to_string(),

@@ -1,5 +1,6 @@
 //! Numbers, texts and the names of types, as a reader wants to see them.
 
+use console::measure_text_width;
 use indicatif::HumanCount;
 use rekwonuda::NodeId;
 
@@ -41,6 +42,22 @@ pub fn capital(text: &str) -> String {
         Some(first) => first.to_uppercase().chain(characters).collect(),
         None => String::new(),
     }
+}
+
+/// Text that takes at most so many columns of a screen: what is longer is cut, with an ellipsis behind.
+pub fn cut(text: &str, widest: usize) -> String {
+    if measure_text_width(text) <= widest {
+        return text.to_string();
+    }
+    let (mut start, mut width) = (String::new(), 0);
+    for character in text.chars() {
+        width += measure_text_width(character.encode_utf8(&mut [0; 4]));
+        if width >= widest {
+            break;
+        }
+        start.push(character);
+    }
+    start + "\u{2026}"
 }
 
 /// The type of a node by the low five bits of its number.
@@ -130,6 +147,22 @@ mod tests {
         assert_eq!(place(27_136), "0x6a00 (27,136)");
         assert_eq!(counted(1, "byte"), "1 byte");
         assert_eq!(counted(1_073_741_824, "byte"), "1,073,741,824 bytes");
+    }
+
+    #[test]
+    fn long_text_is_cut_to_its_width() {
+        assert_eq!(cut("abcd", 4), "abcd");
+        assert_eq!(cut("abcde", 4), "abc\u{2026}");
+        assert_eq!(
+            cut("\u{4F60}\u{4F60}\u{4F60}", 6),
+            "\u{4F60}\u{4F60}\u{4F60}"
+        );
+        assert_eq!(
+            cut("\u{4F60}\u{4F60}\u{4F60}", 5),
+            "\u{4F60}\u{4F60}\u{2026}"
+        );
+        assert_eq!(cut("\u{4F60}\u{4F60}\u{4F60}", 4), "\u{4F60}\u{2026}");
+        assert_eq!(cut("", 0), "");
     }
 
     #[test]

@@ -1,24 +1,27 @@
 //! What `--json` writes is what docs/JSON.md says: its tables, and its examples.
 
 use crate::images::{sample, sound};
+use crate::made::{bytes, hierarchy, table, Made, NAME};
 use crate::page::{self, Shapes};
 use crate::runs::{command, file, folder, office, repository, run, run_in, words, Run};
 use crate::spoilt::{changed, office_with_keys, NODE_LEAVES};
+use model::build::tables::GivenCell;
 use serde_json::{json, Value};
 use std::ffi::OsStr;
 use std::fs;
 use std::os::unix::ffi::OsStrExt;
 use std::os::unix::fs::symlink;
-use std::path::Path;
+use std::path::{Path, PathBuf};
 
 /// Every command on the path, with all that it can ask for.
 fn hold_commands(shapes: &Shapes, path: &Path, nodes: &[u64]) {
-    let commands: [&[&str]; 5] = [
+    let commands: [&[&str]; 6] = [
         &["check"],
         &["check", "--all"],
         &["info"],
         &["nodes"],
         &["blocks"],
+        &["folders"],
     ];
     for words in commands {
         shapes.hold_run(&run(&[words, &["--json"]].concat(), path, &[]));
@@ -27,7 +30,7 @@ fn hold_commands(shapes: &Shapes, path: &Path, nodes: &[u64]) {
     let numbers: Vec<&str> = numbers.iter().map(String::as_str).collect();
     shapes.hold_run(&run(&["find", "--json"], path, &numbers));
     for node in nodes {
-        for command in ["node", "props"] {
+        for command in ["node", "props", "table"] {
             shapes.hold_run(&run(&[command, "--json"], path, &[&node.to_string()]));
         }
     }
@@ -39,7 +42,9 @@ fn answers_have_the_shape_of_the_page() {
     let built = sound();
     let path = file("json_sound.pst", &built.image);
     hold_commands(&shapes, &path, &built.node_numbers());
-    hold_commands(&shapes, &office(), &[0x21, 0x0020_0284, 0x0020_02A4]);
+    let nodes = [0x21, 0x0020_0284, 0x0020_02A4, 0x802D, 0x808E, 0x80EE];
+    hold_commands(&shapes, &office(), &nodes);
+    hold_commands(&shapes, &odd_folders(), &[0x808D, 0x808E]);
     hold_commands(&shapes, &sample(), &[0x21, 0x20]);
     for (at, offset) in [0, 10, 100, built.blocks[0].offset].into_iter().enumerate() {
         let path = file(&format!("json_{at}.pst"), &changed(&built, offset));
@@ -57,8 +62,51 @@ fn answers_have_the_shape_of_the_page() {
     shapes.all_were_met();
 }
 
+/// A file with all that `folders` and `table` can tell of: folders that list each other or share a table,
+/// cells of every kind, and a table that is damaged.
+fn odd_folders() -> PathBuf {
+    let mut made = Made::new();
+    made.root("Root");
+    made.folder(
+        0x122,
+        &[(0x8022, "a"), (0x8042, "b"), (0x8062, "c"), (0x8082, "d")],
+        0,
+    );
+    let shared = made.block(&bytes(&hierarchy(&[(0x122, "up")])));
+    for table in [0x802D, 0x804D] {
+        made.list(table, shared);
+    }
+    made.node(0x806D, &bytes(&hierarchy(&[]))[1..]);
+    let cells = vec![
+        GivenCell::Subnode(0x3F),
+        GivenCell::Number(1),
+        GivenCell::Number(2),
+    ];
+    let odd = [
+        (0x80A2, cells),
+        (
+            0x80C2,
+            vec![
+                GivenCell::Subnode(0xFFE0),
+                GivenCell::Missing,
+                GivenCell::Missing,
+            ],
+        ),
+        (
+            0x80E2,
+            vec![GivenCell::Empty, GivenCell::Missing, GivenCell::Missing],
+        ),
+    ];
+    made.node(
+        0x808D,
+        &bytes(&table(&[NAME, 0x360A_000B, 0x0E06_0040], &odd)),
+    );
+    file("json_folders.pst", &made.image())
+}
+
 fn hold_failures(shapes: &Shapes) {
-    let wrong: [&[&str]; 5] = [
+    let wrong: [&[&str]; 6] = [
+        &["table", "x", "1", "--csv", "--json"],
         &["--json"],
         &["find", "--json", "-", "-"],
         &["--json", "mend"],
@@ -72,7 +120,7 @@ fn hold_failures(shapes: &Shapes) {
         let message = answer["message"].as_str().unwrap();
         assert!(message.contains("--help"), "{answer}");
     }
-    for command in ["check", "info", "nodes", "blocks"] {
+    for command in ["check", "info", "nodes", "blocks", "folders"] {
         let answer = shapes.hold_run(&run(&[command, "--json"], Path::new("no/such.pst"), &[]));
         assert_eq!(answer["file"], "no/such.pst");
         assert_eq!(answer["status"], 2);

@@ -19,16 +19,13 @@ const STALE: &str =
 fn shuffled(name: &str) -> PathBuf {
     file(
         name,
-        &office_with_keys(NODE_LEAVES[0], 32, &[(3, 0x8062), (4, 0x8022)]),
+        &office_with_keys(NODE_LEAVES[0], 32, &[(3, 0x12E), (4, 0x12D)]),
     )
 }
 
 /// A leaf of the node tree whose last node belongs in the next leaf.
 fn stale(name: &str) -> PathBuf {
-    file(
-        name,
-        &office_with_keys(NODE_LEAVES[0], 32, &[(14, 0x20_0124)]),
-    )
+    file(name, &office_with_keys(NODE_LEAVES[0], 32, &[(14, 0x802D)]))
 }
 
 fn says_all(run: &Run, status: i32, words: &[&str]) {
@@ -56,18 +53,18 @@ fn a_shuffled_page_is_told_with_both_keys() {
     let words = [
         "node tree refused",
         SHUFFLED,
-        "0x8600 (34,304): a leaf page of the node tree",
-        "; its entry 4 (counted from 0, of 15) has key 0x8022, the one before it 0x8062; \
-         keys from 0x21 to below 0x200124 belong here",
+        "0xb600 (46,592): a leaf page of the node tree",
+        "; its entry 4 (counted from 0, of 15) has key 0x12d, the one before it 0x12e; \
+         keys from 0x21 to below 0x802d belong here",
         "put out of order, or some of them were written over",
     ];
     says_all(&run(&["check"], &path, &[]), 1, &words);
     let told = json!({
-        "place": "34304", "more": "4",
+        "place": "46592", "more": "4",
         "entry": 4, "entries": 15, "level": 0,
-        "key": "32802", "key_stored": "32802",
-        "key_before": "32866", "key_before_stored": "32866",
-        "range_from": "33", "range_to": "2097444",
+        "key": "301", "key_stored": "301",
+        "key_before": "302", "key_before_stored": "302",
+        "range_from": "33", "range_to": "32813",
     });
     assert_eq!(about_key(&run(&["check", "--json"], &path, &[])), told);
 }
@@ -78,27 +75,27 @@ fn a_stale_page_is_told_with_its_range() {
     let words = [
         "node tree refused",
         STALE,
-        "; its entry 14 (counted from 0, of 15) has key 0x200124, the one before it 0x2000e4; \
-         keys from 0x21 to below 0x200124 belong here",
+        "; its entry 14 (counted from 0, of 15) has key 0x802d, the one before it 0x692; \
+         keys from 0x21 to below 0x802d belong here",
         "a whole, sound page, but it does not go with those that lead to it",
         "may be the room of another message by now, so that it is not followed",
     ];
     says_all(&run(&["check"], &path, &[]), 1, &words);
     let told = json!({
-        "place": "34304", "more": "14",
+        "place": "46592", "more": "14",
         "entry": 14, "entries": 15, "level": 0,
-        "key": "2097444", "key_stored": "2097444",
-        "key_before": "2097380", "key_before_stored": "2097380",
-        "range_from": "33", "range_to": "2097444",
+        "key": "32813", "key_stored": "32813",
+        "key_before": "1682", "key_before_stored": "1682",
+        "range_from": "33", "range_to": "32813",
     });
     assert_eq!(about_key(&run(&["check", "--json"], &path, &[])), told);
 }
 
 #[test]
 fn what_is_not_there_is_not_told() {
-    let image = office_with_keys(NODE_LEAVES[1], 32, &[(0, 0x20_0104)]);
+    let image = office_with_keys(NODE_LEAVES[3], 32, &[(0, 0x20_0064)]);
     let path = file("keys_first.pst", &image);
-    let words = "has key 0x200104; keys from 0x200124 on belong here What to do";
+    let words = "has key 0x200064; keys from 0x200084 on belong here What to do";
     says_all(&run(&["check"], &path, &[]), 1, &[words]);
     let told = about_key(&run(&["check", "--json"], &path, &[]));
     let nulls = ["key_before", "key_before_stored", "range_to"];
@@ -110,7 +107,7 @@ fn what_is_not_there_is_not_told() {
     );
     let words = [
         "the root page of the node tree",
-        "; its entry 1 (counted from 0, of 2) has key 0x21, the one before it 0x21 What to do",
+        "; its entry 1 (counted from 0, of 4) has key 0x21, the one before it 0x21 What to do",
     ];
     says_all(&run(&["check"], &path, &[]), 1, &words);
     let told = about_key(&run(&["check", "--json"], &path, &[]));
@@ -139,7 +136,7 @@ fn a_key_is_told_as_stored_where_it_is_compared_otherwise() {
 #[test]
 fn every_command_tells_the_same() {
     let path = stale("keys_commands.pst");
-    let words = ["a leaf page of the node tree", "has key 0x200124,", STALE];
+    let words = ["a leaf page of the node tree", "has key 0x802d,", STALE];
     let told = about_key(&run(&["check", "--json"], &path, &[]));
     let commands: [(&str, &[&str]); 5] = [
         ("info", &[]),
@@ -159,7 +156,7 @@ fn every_command_tells_the_same() {
     says_all(
         &lines,
         1,
-        &["has key 0x8022, the one before it 0x8062;", SHUFFLED],
+        &["has key 0x12d, the one before it 0x12e;", SHUFFLED],
     );
 }
 
@@ -171,8 +168,8 @@ fn the_way_to_the_data_of_a_node_may_lead_through_a_stale_page() {
     );
     let words = [
         "a leaf page of the block tree (the list of where all data stands), on the way to the data \
-         of node 0x200284 (message); its entry 0 (counted from 0, of 2) has key 0x50; keys from \
-         0x54 on belong here",
+         of node 0x200284 (message); its entry 0 (counted from 0, of 20) has key 0x50; keys from \
+         0x54 to below 0xa4 belong here",
         STALE,
     ];
     says_all(&run(&["node"], &path, &["0x200284"]), 1, &words);

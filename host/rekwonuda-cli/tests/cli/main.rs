@@ -3,11 +3,13 @@
 mod check;
 mod damaged;
 mod find;
+mod folders;
 #[path = "../../../rekwonuda/tests/images/mod.rs"]
 mod images;
 mod json;
 mod keys;
 mod lists;
+mod made;
 mod many;
 mod node;
 mod page;
@@ -17,4 +19,5 @@ mod runs;
 mod screen;
 mod spoilt;
 mod surroundings;
+mod table;
 mod terminal;

@@ -75,11 +75,11 @@ fn with_sample(name: &str) -> std::path::PathBuf {
 fn node_writes_a_file_and_leaves_nothing_else() {
     let folder = with_sample("node_writes");
     let data = write(&folder, "-o -").bytes;
-    assert_eq!(data.len(), 102);
+    assert_eq!(data.len(), 204);
     let run = write(&folder, "-o out.bin");
     assert_eq!(
         (run.status, run.text.as_str()),
-        (0, "102 bytes written to out.bin\n")
+        (0, "204 bytes written to out.bin\n")
     );
     assert_eq!(fs::read(folder.join("out.bin")).unwrap(), data);
     assert_eq!(listed(&folder), ["in.pst", "out.bin"]);
@@ -143,7 +143,7 @@ fn a_file_that_is_there_is_replaced_by_force_alone() {
         fs::write(folder.join("sub/there"), "kept").unwrap();
         run_in(&folder, "chmod 600 sub/there");
         assert_eq!(write(&folder, &format!("--force -o {name}")).status, 0);
-        assert_eq!(kept("sub/there").len(), 102);
+        assert_eq!(kept("sub/there").len(), 204);
         let there = fs::metadata(folder.join("sub/there")).unwrap();
         assert_eq!(there.permissions().mode() & 0o777, 0o600);
         assert!(folder.join("link").is_symlink());

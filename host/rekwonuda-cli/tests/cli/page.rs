@@ -127,6 +127,7 @@ fn is_plain(told: &str, value: &Value) -> bool {
         "number" => value.as_u64().is_some_and(|number| number <= SAFE),
         "text" => value.is_string(),
         "true" => value == true,
+        "true or false" => value.is_boolean(),
         "digits" => text
             .parse::<u64>()
             .is_ok_and(|number| number.to_string() == text),

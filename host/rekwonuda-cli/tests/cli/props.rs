@@ -71,7 +71,8 @@ fn data_that_is_no_property_heap_is_told_by_what_it_is() {
     let length = built.data(node).len();
     let words = format!("is no property heap: its data, {length} bytes in 1 block, begins with");
     told("plain.pst", &built.image, node.node, 4, &words);
-    let words = "begins as a heap of client kind 0x7c does (a table)";
+    let words =
+        "begins as a heap of client kind 0x7c does (a table, which the command `table` shows)";
     told(
         "table.pst",
         &as_heap(&built, node, 0x7C),

@@ -22,6 +22,12 @@ fn readme_shows_what_is_printed() {
         (run.status, run.text.as_str()),
         (0, sound.trim_start_matches('\n'))
     );
+    let [script, folders] = blocks_behind(&page, "The folders of the sample:");
+    let run = run_in(&folder, script.strip_prefix("sh\n").unwrap());
+    assert_eq!(
+        (run.status, run.text.as_str()),
+        (0, folders.trim_start_matches('\n'))
+    );
     let [script, damaged] = blocks_behind(&page, "A damaged file:");
     let run = run_in(&folder, script.strip_prefix("sh\n").unwrap());
     assert_eq!(

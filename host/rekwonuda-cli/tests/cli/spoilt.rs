@@ -8,10 +8,10 @@ use model::page::Tree;
 use model::Node;
 use std::fs;
 
-/// Pages of samples/office.pst. Each of its trees is a root with two leaves.
-pub const NODE_ROOT: usize = 0x8A00;
-pub const NODE_LEAVES: [usize; 2] = [0x8600, 0x8800];
-pub const BLOCK_LEAVES: [usize; 2] = [0x8000, 0x8200];
+/// Pages of samples/office.pst. Each of its trees is a root with some leaves.
+pub const NODE_ROOT: usize = 0xBE00;
+pub const NODE_LEAVES: [usize; 4] = [0xB600, 0xB800, 0xBA00, 0xBC00];
+pub const BLOCK_LEAVES: [usize; 3] = [0xAE00, 0xB000, 0xB200];
 
 /// The sample with other keys in some entries of a page, whose entries have that size; the page is
 /// sealed again.

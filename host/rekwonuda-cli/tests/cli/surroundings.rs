@@ -13,7 +13,8 @@ use std::process::Stdio;
 #[test]
 fn wrong_usage_has_status_2() {
     let nothing: [&str; 0] = [];
-    let commands = [&["check"][..], &["find"], &["node"], &["props"], &["mend"]];
+    let commands = [&["check"][..], &["find"], &["node"], &["props"], &["table"]];
+    let commands = [&commands[..], &[&["folders"], &["mend"]]].concat();
     for words in commands.iter().chain(&[&nothing[..]]) {
         let run = run(words, Path::new("--none"), &[]);
         assert_eq!(run.status, 2, "{words:?}");
@@ -86,6 +87,9 @@ fn standard_error_may_be_full_or_closed() {
         ("find in.pst 0x21 0x20", 1),
         ("find bad.pst 0x21", 1),
         ("props in.pst 0x200284", 4),
+        ("table in.pst 0x21", 4),
+        ("table in.pst 0x20", 3),
+        ("folders bad.pst", 1),
         ("node in.pst 0x21 -o in.pst", 2),
         ("check none.pst bad.pst", 2),
         ("check in.pst", 0),
@@ -101,7 +105,8 @@ fn standard_error_may_be_full_or_closed() {
 fn standard_output_that_is_full_has_status_2() {
     let sample = office();
     let named = sample.display();
-    for words in ["check", "check --json", "info", "nodes", "blocks --json"] {
+    let commands = ["check", "check --json", "info", "nodes", "blocks --json"];
+    for words in commands.iter().chain(&["folders", "folders --json"]) {
         let run = run_in(
             Path::new("."),
             &format!("./rekwonuda {words} {named} >/dev/full"),
@@ -115,6 +120,10 @@ fn standard_output_that_is_full_has_status_2() {
         &format!("./rekwonuda find {named} 0x21 >/dev/full"),
     );
     assert_eq!(found.status, 2);
+    for form in ["", "--csv", "--json"] {
+        let script = format!("./rekwonuda table {form} {named} 0x808e >/dev/full");
+        assert_eq!(run_in(Path::new("."), &script).status, 2, "{form}");
+    }
     let several = run_in(
         Path::new("."),
         &format!("./rekwonuda check {named} {named} >/dev/full"),
@@ -167,7 +176,7 @@ fn help_is_short_or_long_and_tells_the_exit_statuses() {
     assert!(short.text.len() < long.text.len());
     let json = words(&["--json", "--help"]);
     assert_eq!((json.status, json.text), (0, long.text));
-    for command in ["check", "find", "node"] {
+    for command in ["check", "find", "node", "table", "folders"] {
         let [short, long] = ["-h", "--help"].map(|word| words(&[command, word]));
         assert!(short.text.lines().count() < long.text.lines().count());
         assert!(long.says("3 what was asked for is absent"), "{}", long.text);

@@ -87,7 +87,8 @@ fn a_stage_is_told_when_it_ends() {
 
 #[test]
 fn help_keeps_to_the_width_of_the_terminal() {
-    for words in ["--help", "-h", "check --help", "node --help"] {
+    let helps = ["--help", "-h", "check --help", "node --help"];
+    for words in helps.iter().chain(&["table --help", "folders --help"]) {
         for width in [40, 60, 90] {
             let mut screen = Screen::new(1000);
             screen.show(&sent(width, words));
@@ -114,10 +115,31 @@ fn an_account_keeps_to_the_width_of_the_terminal() {
 }
 
 #[test]
+fn a_table_keeps_to_the_width_of_the_terminal() {
+    let words = format!("table {} 0x808e", office().display());
+    for width in [40, 100] {
+        let mut screen = Screen::new(1000);
+        screen.show(&sent(width, &words));
+        let lines = screen.lines();
+        let table = lines.iter().filter(|line| line.contains("0x2"));
+        assert!(table.clone().all(|line| line.chars().count() <= width));
+        assert!(table.count() == 11 && lines[0].ends_with('\u{2026}'));
+        let told = "lines are cut to the terminal; behind | less -S they are whole";
+        assert_eq!(lines.last().map(String::as_str), Some(told));
+    }
+    let whole = run(&["table"], &office(), &["0x808e"]).text;
+    assert!(!whole.contains('\u{2026}') && !whole.contains("cut"));
+    let mut screen = Screen::new(1000);
+    screen.show(&sent(1000, &words));
+    let lines: Vec<&str> = whole.lines().filter(|line| !line.is_empty()).collect();
+    assert_eq!(screen.lines(), lines);
+}
+
+#[test]
 fn data_is_previewed_on_a_terminal_alone() {
     let sent = sent(80, &format!("node {} 0x21", office().display()));
     assert!(
-        sent.contains("000000  ") && sent.contains("102 bytes; -o OUT"),
+        sent.contains("000000  ") && sent.contains("204 bytes; -o OUT"),
         "{sent}"
     );
 }
