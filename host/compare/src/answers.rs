@@ -1,6 +1,8 @@
 //! The model's answers as the fields of `include/rekwonuda.h`, in their order; unused ones are 0.
 
-use model::{Answer, Block, Header, Item, Lookup, Node, Property, Value};
+use model::{
+    Answer, Block, Cell, Column, Header, Item, Lookup, Node, Property, Rows, Table, Value,
+};
 
 fn fields<T, const N: usize>(answer: Answer<T>, fill: impl FnOnce(T, &mut [u64])) -> [u64; N] {
     let mut fields = [0; N];
@@ -93,5 +95,49 @@ pub fn property(answer: Answer<Option<Property>>) -> [u64; 7] {
             Value::Subnode(subnode) => (3, subnode),
         };
         rest.copy_from_slice(&[1, u64::from(kind), which, u64::from(value)]);
+    })
+}
+
+pub fn table(answer: Answer<Table>) -> [u64; 8] {
+    fields(answer, |table, rest| {
+        let (kind, number) = match table.rows {
+            Rows::None => (1, 0),
+            Rows::Item(item) => (2, item),
+            Rows::Subnode(subnode) => (3, subnode),
+        };
+        rest.copy_from_slice(&[
+            u64::from(table.columns),
+            u64::from(table.row_size),
+            u64::from(table.existence),
+            kind,
+            u64::from(number),
+        ]);
+    })
+}
+
+pub fn column(answer: Answer<Option<Column>>) -> [u64; 8] {
+    fields(answer, |column, rest| {
+        if let Some(column) = column {
+            rest.copy_from_slice(&[
+                1,
+                u64::from(column.tag),
+                u64::from(column.offset),
+                u64::from(column.width),
+                u64::from(column.bit),
+            ]);
+        }
+    })
+}
+
+/// As the model puts it into a place of a row too.
+pub fn cell(answer: Answer<Option<Cell>>) -> [u64; 6] {
+    model::table::in_words(answer)
+}
+
+pub fn row(answer: Answer<Option<u32>>) -> [u64; 5] {
+    fields(answer, |row, rest| {
+        if let Some(row) = row {
+            rest.copy_from_slice(&[1, u64::from(row)]);
+        }
     })
 }

@@ -4,6 +4,7 @@ use crate::answers;
 use crate::buffers::Buffers;
 use crate::checksums::Part;
 use crate::lists::WORDS;
+use crate::tables::CELL_WORDS;
 use rekwonuda_sys as proved;
 
 #[derive(Clone, Copy, PartialEq, Eq, PartialOrd, Ord, Debug)]
@@ -25,6 +26,12 @@ pub enum Call {
     TestItem,
     Item,
     FindProperty,
+    Table,
+    Column,
+    CountRows,
+    Cell,
+    FindRow,
+    ReadRow,
     Checksum,
     Signature,
     Room,
@@ -57,6 +64,27 @@ pub const ON_HEAP: &[Call] = &[
     Call::FindProperty,
 ];
 
+/// The calls on a table, and some that know no table.
+pub const ON_TABLE: &[Call] = &[
+    Call::Table,
+    Call::Column,
+    Call::Column,
+    Call::CountRows,
+    Call::CountRows,
+    Call::Cell,
+    Call::Cell,
+    Call::Cell,
+    Call::Cell,
+    Call::FindRow,
+    Call::FindRow,
+    Call::FindRow,
+    Call::ReadRow,
+    Call::ReadRow,
+    Call::ReadRow,
+    Call::Item,
+    Call::FindProperty,
+];
+
 pub const ON_BYTES: &[Call] = &[
     Call::Encode,
     Call::Decode,
@@ -78,15 +106,20 @@ impl Call {
         matches!(self, Call::FindBlock | Call::TestBlock | Call::ReadBlock)
     }
 
+    /// Whether the call reads a table.
+    pub fn reads_table(self) -> bool {
+        (Call::Table..=Call::ReadRow).contains(&self)
+    }
+
     /// Whether the answer's fourth field says found or absent.
     pub fn may_be_absent(self) -> bool {
-        if matches!(self, Call::NextNode | Call::NextBlock) {
-            return true;
-        }
-        matches!(
+        let in_table = matches!(
             self,
-            Call::FindNode | Call::FindBlock | Call::ReadNode | Call::FindProperty
-        )
+            Call::Column | Call::Cell | Call::FindRow | Call::ReadRow
+        );
+        let in_image = matches!(self, Call::FindNode | Call::FindBlock | Call::ReadNode);
+        let next = matches!(self, Call::NextNode | Call::NextBlock);
+        in_image || next || in_table || self == Call::FindProperty
     }
 
     /// The refusals that the header of the C face allows this call.
@@ -101,6 +134,8 @@ impl Call {
             Call::TestHeap => vec![18],
             Call::TestItem | Call::Item => vec![18, 19],
             Call::FindProperty => vec![18, 19, 20],
+            Call::ReadRow => vec![17, 18, 19, 23],
+            _ if self.reads_table() => vec![18, 19, 23],
             Call::Checksum | Call::Signature | Call::Room => Vec::new(),
             _ => (1..=11).chain([21]).collect(),
         }
@@ -111,12 +146,14 @@ impl Call {
 #[derive(Clone, Copy, Debug)]
 pub struct Ask {
     pub call: Call,
+    /// Of a cell and of all cells of a row the row's.
     pub number: u64,
+    pub tag: u32,
     /// A page or block offset, for the signature.
     pub offset: u64,
     pub method: u8,
     pub out_length: usize,
-    /// The words of the area that a list of nodes is answered in.
+    /// The words of the area that a list of nodes, or all cells of a row, are answered in.
     pub words: usize,
     /// Of which bytes the checksum is taken.
     pub part: Part,
@@ -128,6 +165,7 @@ impl Ask {
         Self {
             call,
             number,
+            tag: 0,
             offset: 0,
             method: 0,
             out_length: 0,
@@ -137,11 +175,13 @@ impl Ask {
     }
 }
 
-/// What is lent to a call for reading: an image, a block or other bytes, and a list of node numbers.
+/// What is lent to a call for reading: an image, a block or other bytes, a list of node numbers, and the
+/// block of a table's rows.
 #[derive(Clone, Copy, PartialEq, Eq)]
 pub struct Lent<'a> {
     pub bytes: &'a [u8],
     pub nodes: &'a [u64],
+    pub rows: &'a [u8],
 }
 
 /// All fields of both answers.
@@ -174,6 +214,11 @@ pub fn ask(ask: &Ask, lent: Lent, own: Lent, buffers: &mut Buffers) -> Answers {
             buffers.set_words(ask.words, ask.number);
             find_nodes(lent, own, buffers)
         }
+        Call::ReadRow => {
+            buffers.set_words(ask.words, ask.number);
+            read_row(ask, lent, own, buffers)
+        }
+        call if call.reads_table() => look_in_table(ask, lent, own),
         _ => look(ask, lent.bytes, own.bytes),
     }
 }
@@ -183,6 +228,27 @@ fn find_nodes(lent: Lent, own: Lent, buffers: &mut Buffers) -> Answers {
     let model = model::find_nodes(own.bytes, own.nodes, model_places);
     let proved = proved::find_nodes(lent.bytes, lent.nodes, places);
     both(proved.fields(), answers::plain(model))
+}
+
+fn read_row(ask: &Ask, lent: Lent, own: Lent, buffers: &mut Buffers) -> Answers {
+    let row = ask.number as u32;
+    let (places, model_places) = buffers.lend_words();
+    let model = model::read_row(own.bytes, own.rows, row, model_places);
+    let proved = proved::read_row(lent.bytes, lent.rows, row, places);
+    both(proved.fields(), answers::data(model))
+}
+
+/// Whether each place, as a call for a row has just left it, is what the proved library answers to that
+/// cell alone.
+pub fn alike_cell_by_cell(ask: &Ask, lent: Lent, buffers: &mut Buffers) -> bool {
+    let (places, _) = buffers.lend_words();
+    let columns = (0..).map(|at| proved::column(lent.bytes, at));
+    let columns = columns.take_while(|column| column.found == 1);
+    let mut each = columns.zip(places.chunks_exact(CELL_WORDS));
+    each.all(|(column, place)| {
+        let row = ask.number as u32;
+        proved::cell(lent.bytes, lent.rows, row, column.tag as u32).fields() == place
+    })
 }
 
 /// Whether each place, as a call for a list has just left it, is what the proved library answers to
@@ -257,6 +323,24 @@ macro_rules! put_to_both {
             answers::$shape(model::$call($own $(, $argument)*)),
         )
     };
+}
+
+fn look_in_table(ask: &Ask, lent: Lent, own: Lent) -> Answers {
+    let Ask { number, tag, .. } = *ask;
+    let (block, own_block) = (lent.bytes, own.bytes);
+    match ask.call {
+        Call::Table => put_to_both!(table as table, block, own_block),
+        Call::Column => put_to_both!(column as column, block, own_block, number as u32),
+        Call::FindRow => put_to_both!(find_row as row, block, own_block, number as u32),
+        Call::CountRows => both(
+            proved::count_rows(block, lent.rows).fields(),
+            answers::length(model::count_rows(own_block, own.rows)),
+        ),
+        _ => both(
+            proved::cell(block, lent.rows, number as u32, tag).fields(),
+            answers::cell(model::cell(own_block, own.rows, number as u32, tag)),
+        ),
+    }
 }
 
 fn look(ask: &Ask, lent: &[u8], own: &[u8]) -> Answers {

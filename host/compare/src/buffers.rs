@@ -84,7 +84,7 @@ impl Buffers {
         Some((at, proved, model))
     }
 
-    /// The area that the model has answered a list of nodes in; nothing behind any other call.
+    /// The area that the model has answered a list of nodes or a row in; nothing behind any other call.
     pub fn area(&self) -> &[u64] {
         let end = self.words.model.len().saturating_sub(GUARD);
         self.words.model.get(GUARD..end).unwrap_or_default()

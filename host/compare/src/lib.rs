@@ -7,6 +7,8 @@ pub mod buffers;
 pub mod checksums;
 pub mod keys;
 pub mod lists;
+pub mod question;
 pub mod run;
 pub mod subject;
+pub mod tables;
 pub mod tally;

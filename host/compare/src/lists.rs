@@ -115,17 +115,18 @@ pub fn draw(
     nodes
 }
 
-/// The words of an area for a list of that length: none, a word or a place short, exact, or over.
-pub fn area(length: usize, random: &mut Random) -> usize {
-    let exact = WORDS * length;
+/// The words of an area for so many places of so many words each: none, a word or a place short, exact,
+/// or over.
+pub fn area(places: usize, words: usize, random: &mut Random) -> usize {
+    let exact = words * places;
     match random.below(12) {
         0 => 0,
         1 => exact.saturating_sub(1),
-        2 => exact.saturating_sub(WORDS),
-        3 => exact.saturating_sub(random.between(2, WORDS - 1)),
-        4..=5 => exact + random.between(1, WORDS - 1),
-        6 => exact + WORDS * random.between(1, 3),
-        7 => exact + random.below(5 * WORDS),
+        2 => exact.saturating_sub(words),
+        3 => exact.saturating_sub(random.between(2, words - 1)),
+        4..=5 => exact + random.between(1, words - 1),
+        6 => exact + words * random.between(1, 3),
+        7 => exact + random.below(5 * words),
         _ => exact,
     }
 }

@@ -30,6 +30,7 @@ fn main() -> ExitCode {
     println!("{}", run.tally);
     println!("{} calls also with bit 0 the other way", run.either_way);
     println!("{} lists also node by node", run.one_by_one);
+    println!("{} rows also cell by cell", run.cell_by_cell);
     let disagreements = run.disagreements.len();
     let seconds = start.elapsed().as_secs_f64();
     println!(

@@ -1,9 +1,10 @@
 //! The seeded loop.
 
-use crate::ask::{alike_either_way, alike_one_by_one, ask, Answers, Ask, Call, Lent};
+use crate::ask::{
+    alike_cell_by_cell, alike_either_way, alike_one_by_one, ask, Answers, Ask, Call, Lent,
+};
 use crate::buffers::{Buffers, GUARD};
-use crate::checksums::Part;
-use crate::lists;
+use crate::question::{question, Question};
 use crate::subject::{images_for_long_lists, subjects, widest_image, Subject};
 use crate::tally::Tally;
 use model::random::Random;
@@ -23,6 +24,8 @@ pub struct Run {
     pub either_way: u64,
     /// Of these, the lists whose nodes were put to the proved library one by one too.
     pub one_by_one: u64,
+    /// Of these, the rows whose cells were put to the proved library one by one too.
+    pub cell_by_cell: u64,
     pub tally: Tally,
     pub disagreements: Vec<Disagreement>,
     buffers: Buffers,
@@ -44,6 +47,7 @@ impl Run {
             calls: 0,
             either_way: 0,
             one_by_one: 0,
+            cell_by_cell: 0,
             tally: Tally::default(),
             disagreements: Vec::new(),
             buffers: Buffers::default(),
@@ -74,25 +78,29 @@ impl Run {
         let ahead = random.below(MOST_AHEAD);
         let bytes = behind(ahead, &subject.bytes);
         for _ in 0..subject.asks {
-            let (question, own_nodes) = question(subject, &mut random);
-            let nodes = own_nodes.clone();
+            let question = question(subject, &mut random);
+            let nodes = question.nodes.clone();
+            let rows_ahead = random.below(MOST_AHEAD);
+            let rows = behind(rows_ahead, &question.rows);
             let own = Lent {
                 bytes: &subject.bytes,
-                nodes: &own_nodes,
+                nodes: &question.nodes,
+                rows: &question.rows,
             };
             let lent = Lent {
                 bytes: &bytes[ahead..],
                 nodes: &nodes,
+                rows: &rows[rows_ahead..],
             };
-            let answers = ask(&question, lent, own, &mut self.buffers);
+            let answers = ask(&question.ask, lent, own, &mut self.buffers);
             self.calls += 1;
             let fault = fault(&answers, self.buffers.same(), lent == own)
-                .or_else(|| self.fault_beside(&question, lent, &answers, &mut random));
+                .or_else(|| self.fault_beside(&question.ask, lent, &answers, &mut random));
             if let Some(fault) = fault {
-                self.report(seed, subject, &question, own.nodes, &answers, fault);
+                self.report(seed, subject, &question, &answers, fault);
                 return;
             }
-            self.add(&question, lent, &answers);
+            self.add(&question.ask, lent, &answers);
         }
     }
 
@@ -102,6 +110,10 @@ impl Run {
         if question.call == Call::FindNodes {
             let area = self.buffers.area();
             self.tally.add_list(lent.nodes.len(), answers, area);
+        }
+        if question.call.reads_table() {
+            let area = self.buffers.area();
+            self.tally.add_table(question, lent, answers, area);
         }
         if question.call == Call::Checksum {
             self.tally.add_checksum(question.part.of(lent.bytes));
@@ -116,7 +128,7 @@ impl Run {
         answers: &Answers,
         random: &mut Random,
     ) -> Option<&'static str> {
-        if question.call.seeks_block() && random.one_in(3) {
+        if question.call.seeks_block() && random.below(5) < 2 {
             self.either_way += 1;
             let alike = alike_either_way(question, lent.bytes, &mut self.buffers);
             return (!alike).then_some("bit 0 makes a difference");
@@ -127,6 +139,11 @@ impl Run {
             let alike = alike_one_by_one(lent, &mut self.buffers);
             return (!alike).then_some("a place is not what the lookup answers");
         }
+        if question.call == Call::ReadRow && answers.proved[3] == 1 && random.one_in(2) {
+            self.cell_by_cell += 1;
+            let alike = alike_cell_by_cell(question, lent, &mut self.buffers);
+            return (!alike).then_some("a place is not what the cell alone answers");
+        }
         None
     }
 
@@ -134,42 +151,47 @@ impl Run {
         &mut self,
         seed: u64,
         subject: &Subject,
-        ask: &Ask,
-        nodes: &[u64],
+        question: &Question,
         answers: &Answers,
         fault: &str,
     ) {
+        let Question { ask, nodes, rows } = question;
         let at = self.disagreements.len();
         let mut report = format!("{fault}: seed {seed:#x}, {}, {ask:x?}\n", subject.name);
         if ask.call == Call::FindNodes {
-            report += &self.list_in_words(nodes);
+            report += &list_in_words(nodes);
+        }
+        if let Some((at, proved, model)) = self.buffers.first_other_word() {
+            report += &format!("  word {at}, the area's first being {GUARD}: ");
+            report += &format!("proved {proved:x}, model {model:x}\n");
         }
         let _ = writeln!(
             report,
             "  proved {:x?}\n  model  {:x?}",
             answers.proved, answers.model
         );
-        let folder = PathBuf::from(env!("CARGO_MANIFEST_DIR")).join("../../target/compare");
-        let path = folder.join(format!("disagreement-{}-{at}.img", self.seed));
-        let written =
-            std::fs::create_dir_all(&folder).and_then(|()| std::fs::write(&path, &subject.bytes));
-        let _ = match written {
-            Ok(()) => writeln!(report, "  bytes in {}", path.display()),
-            Err(error) => writeln!(report, "  bytes not written: {error}"),
-        };
+        let name = format!("disagreement-{}-{at}", self.seed);
+        report += &written(&format!("{name}.img"), &subject.bytes);
+        if ask.call.reads_table() {
+            report += &written(&format!("{name}.rows"), rows);
+        }
         eprint!("{report}");
         self.disagreements.push(Disagreement { report });
     }
+}
 
-    /// Its numbers, and the first word in which the two areas differ.
-    fn list_in_words(&self, nodes: &[u64]) -> String {
-        let some = &nodes[..nodes.len().min(MOST_SHOWN)];
-        let mut words = format!("  list of {}: {some:x?}\n", nodes.len());
-        if let Some((at, proved, model)) = self.buffers.first_other_word() {
-            words += &format!("  word {at}, the area's first being {GUARD}: ");
-            words += &format!("proved {proved:x}, model {model:x}\n");
-        }
-        words
+fn list_in_words(nodes: &[u64]) -> String {
+    let some = &nodes[..nodes.len().min(MOST_SHOWN)];
+    format!("  list of {}: {some:x?}\n", nodes.len())
+}
+
+/// Writes the bytes to a file of that name, and says where it is.
+fn written(name: &str, bytes: &[u8]) -> String {
+    let folder = PathBuf::from(env!("CARGO_MANIFEST_DIR")).join("../../target/compare");
+    let path = folder.join(name);
+    match std::fs::create_dir_all(&folder).and_then(|()| std::fs::write(&path, bytes)) {
+        Ok(()) => format!("  bytes in {}\n", path.display()),
+        Err(error) => format!("  bytes not written: {error}\n"),
     }
 }
 
@@ -189,102 +211,5 @@ fn fault(answers: &Answers, same_buffers: bool, unchanged: bool) -> Option<&'sta
         Some("what was lent has changed")
     } else {
         None
-    }
-}
-
-/// A call, and the list of nodes for a call that takes one.
-fn question(subject: &Subject, random: &mut Random) -> (Ask, Vec<u64>) {
-    let call = random.pick(subject.calls).copied().unwrap_or(Call::Room);
-    let number = number_for(call, subject, random);
-    let method = if random.one_in(8) {
-        random.byte()
-    } else {
-        random.below(3) as u8
-    };
-    let offset = match random.below(3) {
-        0 => number,
-        1 => random.below(1 << 30) as u64,
-        _ => random.number(),
-    };
-    let nodes = nodes_for(call, subject, random);
-    let words = match call {
-        Call::FindNodes => lists::area(nodes.len(), random),
-        _ => 0,
-    };
-    let part = match call {
-        Call::Checksum => Part::draw(subject.bytes.len(), random),
-        _ => Part::WHOLE,
-    };
-    let ask = Ask {
-        call,
-        number,
-        offset,
-        method,
-        out_length: out_length(call, number, subject, random),
-        words,
-        part,
-    };
-    (ask, nodes)
-}
-
-/// Of any other call none.
-fn nodes_for(call: Call, subject: &Subject, random: &mut Random) -> Vec<u64> {
-    if call != Call::FindNodes {
-        return Vec::new();
-    }
-    let length = if subject.long_lists {
-        lists::long(random)
-    } else {
-        lists::length(random)
-    };
-    lists::draw(length, random, |random| number_for(call, subject, random))
-}
-
-fn number_for(call: Call, subject: &Subject, random: &mut Random) -> u64 {
-    let known = match call {
-        Call::TestItem | Call::Item => &subject.items,
-        Call::FindProperty => &subject.ids,
-        _ if call.takes_node() => &subject.nodes,
-        _ => &subject.blocks,
-    };
-    let known = random.pick(known).copied().unwrap_or(64);
-    match random.below(16) {
-        0 => known.wrapping_add(1),
-        1 => known.wrapping_sub(1),
-        2 => random.one_of([0, 1, 2, 4, u64::MAX, u64::from(u32::MAX), 1 << 32]),
-        3 => known | random.number() << 32,
-        4 => random.number(),
-        5 => random.below(10_000) as u64,
-        6 => known ^ 1 << random.below(64),
-        7..=9 if call.seeks_block() => known ^ 1,
-        7..=9 if call == Call::NextBlock => near_key(known, random),
-        _ => known,
-    }
-}
-
-/// A listed number's key, or a number next to that key.
-fn near_key(listed: u64, random: &mut Random) -> u64 {
-    let key = listed & !1;
-    random.one_of([key, key | 1, key.wrapping_add(2), key.wrapping_sub(1)])
-}
-
-/// None, one short, exact, one over, or some over what the call needs.
-fn out_length(call: Call, number: u64, subject: &Subject, random: &mut Random) -> usize {
-    let answer = match call {
-        Call::ReadBlock => model::read_block(&subject.bytes, number, &mut []).map(|_| 0),
-        Call::ReadNode => model::read_node(&subject.bytes, number, &mut []).map(|_| 0),
-        Call::Encode | Call::Decode => return subject.bytes.len(),
-        _ => return 0,
-    };
-    let needed = match answer {
-        Err(refusal) if refusal.number == 17 => refusal.more as usize,
-        _ => 0,
-    };
-    match random.below(6) {
-        0 => 0,
-        1 => needed.saturating_sub(1),
-        2 | 3 => needed,
-        4 => needed + 1,
-        _ => needed + random.below(200),
     }
 }

@@ -1,7 +1,10 @@
 //! What is lent to the calls: built, damaged and random images, heaps and plain bytes, each with the
 //! numbers worth asking for.
 
+mod tables;
+
 use crate::ask::{Call, ON_BYTES, ON_HEAP, ON_IMAGE};
+use crate::tables::draw::Known;
 use model::build::heaps::{bare_heap, empty_items, property_context, HeapPlan, PlacedHeap};
 use model::build::seal::seal_header;
 use model::build::{build, build_small, build_small_loose, Built, Plan, MOST_SMALL};
@@ -20,6 +23,7 @@ pub struct Subject {
     /// Item numbers and property ids.
     pub items: Vec<u64>,
     pub ids: Vec<u64>,
+    pub table: Known,
     /// Whether a list of nodes is as long as it may be, or longer by one.
     pub long_lists: bool,
     /// How many calls it is good for.
@@ -36,6 +40,7 @@ impl Subject {
             blocks: Vec::new(),
             items: Vec::new(),
             ids: Vec::new(),
+            table: Known::default(),
             long_lists: false,
             asks: 8,
         }
@@ -45,12 +50,13 @@ impl Subject {
 /// Some subjects that belong together, made from one seed.
 pub fn subjects(seed: u64) -> Vec<Subject> {
     let mut random = Random::new(seed);
-    match random.below(64) {
+    match random.below(75) {
         0..=31 => built_images(&mut random),
-        32..=33 => wide_images(&mut random),
-        34..=37 => vec![random_image(&mut random)],
-        38..=53 => heaps(&mut random),
-        54..=55 => vec![random_heap(&mut random)],
+        32..=34 => wide_images(&mut random),
+        35..=38 => vec![random_image(&mut random)],
+        39..=54 => heaps(&mut random),
+        55..=56 => vec![random_heap(&mut random)],
+        57..=66 => tables::tables(&mut random),
         _ => vec![plain_bytes(&mut random)],
     }
 }

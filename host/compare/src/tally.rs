@@ -1,15 +1,18 @@
 //! Counts of what the calls answered.
 
-use crate::ask::{Answers, Call};
-use crate::checksums;
+use crate::ask::{Answers, Ask, Call, Lent};
 use crate::keys::KeyFault;
 use crate::lists::Met;
+use crate::{checksums, tables};
 use model::page::Tree;
 use model::Refusal;
 use std::collections::BTreeMap;
 use std::fmt;
 
-pub const MOST_REFUSAL: u64 = 21;
+/// The refusals that any call can give.
+pub fn refusals() -> impl Iterator<Item = u64> {
+    (1..=21).chain([23])
+}
 
 #[derive(Default, Clone)]
 pub struct Counts {
@@ -25,6 +28,8 @@ pub struct Tally {
     /// What a place says counts once a place, all else once a call.
     pub lists: BTreeMap<Met, u64>,
     pub checksums: BTreeMap<checksums::Met, u64>,
+    /// What a place says counts once a place, all else once a call.
+    pub tables: BTreeMap<tables::Met, u64>,
 }
 
 impl Tally {
@@ -50,6 +55,13 @@ impl Tally {
     pub fn add_checksum(&mut self, bytes: &[u8]) {
         for met in checksums::Met::in_call(bytes) {
             *self.checksums.entry(met).or_default() += 1;
+        }
+    }
+
+    /// Adds what the answer to a call on a table says, and the area that a row was answered in.
+    pub fn add_table(&mut self, ask: &Ask, lent: Lent, answers: &Answers, area: &[u64]) {
+        for met in tables::Met::in_call(ask, lent, &answers.model, area) {
+            *self.tables.entry(met).or_default() += 1;
         }
     }
 
@@ -103,6 +115,12 @@ impl Tally {
         let never = |met: &checksums::Met| !self.checksums.contains_key(met);
         checksums::Met::all().filter(never).collect()
     }
+
+    /// What calls on tables have to meet and never met.
+    pub fn tables_not_reached(&self) -> Vec<tables::Met> {
+        let never = |met: &tables::Met| !self.tables.contains_key(met);
+        tables::Met::all().filter(never).collect()
+    }
 }
 
 impl fmt::Display for Tally {
@@ -126,12 +144,13 @@ impl fmt::Display for Tally {
             writeln!(f)?;
         }
         writeln!(f, "\nrefusal     calls")?;
-        for number in 1..=MOST_REFUSAL {
+        for number in refusals() {
             writeln!(f, "{number:>7} {:>9}", self.refusals(number))?;
         }
         self.write_keys(f)?;
         write_counts(f, ("lists of nodes", "times"), &self.lists)?;
-        write_counts(f, ("checksums", "calls"), &self.checksums)
+        write_counts(f, ("checksums", "calls"), &self.checksums)?;
+        write_counts(f, ("tables", "times"), &self.tables)
     }
 }
 

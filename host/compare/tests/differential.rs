@@ -1,10 +1,11 @@
 //! 200,000 calls over built, damaged and random bytes: both answer alike, every refusal comes up in
 //! every call that can give it, keys at fault in every sort of page, at every sort of entry, with and
-//! without a fault of the other rule, in the places of a list of nodes every answer of the lookup, and
-//! checksums of every length under eight, over every rest of an eight and from every alignment.
+//! without a fault of the other rule, in the places of a list of nodes every answer of the lookup,
+//! checksums of every length under eight, over every rest of an eight and from every alignment, and in
+//! calls on tables every fault, every sort of cell and every limit of rows, columns and areas.
 
 use compare::run::Run;
-use compare::tally::MOST_REFUSAL;
+use compare::tally::refusals;
 
 #[test]
 fn differential() {
@@ -13,6 +14,7 @@ fn differential() {
     println!("{}", run.tally);
     println!("{} calls also with bit 0 the other way", run.either_way);
     println!("{} lists also node by node", run.one_by_one);
+    println!("{} rows also cell by cell", run.cell_by_cell);
     println!(
         "{} calls, {} disagreements",
         run.calls,
@@ -24,7 +26,8 @@ fn differential() {
     );
     assert!(run.either_way > 10_000);
     assert!(run.one_by_one > 1_000);
-    for number in 1..=MOST_REFUSAL {
+    assert!(run.cell_by_cell > 500);
+    for number in refusals() {
         assert!(
             run.tally.refusals(number) > 0,
             "refusal {number} was not reached"
@@ -35,4 +38,5 @@ fn differential() {
     assert!(run.tally.keys.keys().all(|fault| fault.can_occur()));
     assert_eq!(run.tally.lists_not_reached(), []);
     assert_eq!(run.tally.checksums_not_reached(), []);
+    assert_eq!(run.tally.tables_not_reached(), []);
 }

@@ -28,6 +28,7 @@ fn met(nodes: &[u64], words: usize) -> Vec<Met> {
     let lent = Lent {
         bytes: &image,
         nodes,
+        rows: &[],
     };
     let mut buffers = Buffers::default();
     let answers = ask(&question, lent, lent, &mut buffers);
@@ -89,10 +90,10 @@ fn lists_that_are_drawn() {
 #[test]
 fn areas_that_are_drawn() {
     let mut random = Random::new(1);
-    let areas: BTreeSet<_> = (0..2000).map(|_| area(10, &mut random)).collect();
+    let areas: BTreeSet<_> = (0..2000).map(|_| area(10, WORDS, &mut random)).collect();
     let expected = [0].into_iter().chain([81, 89, 90, 91, 98, 99, 108, 117]);
     assert!(areas.is_superset(&expected.collect()));
     assert!(areas.range(1..81).next().is_none());
-    let areas: BTreeSet<_> = (0..2000).map(|_| area(0, &mut random)).collect();
+    let areas: BTreeSet<_> = (0..2000).map(|_| area(0, WORDS, &mut random)).collect();
     assert!(areas.is_superset(&[0, 1, 8, 9, 27].into()));
 }
