@@ -1,5 +1,5 @@
-//! Every call in the proved library and in the model, side by side; a call for a list also beside as
-//! many single calls, and the checksum also beside the one with a single table.
+//! Every call in the proved library and in the model, side by side; a call for a list or for a row also
+//! beside as many single calls, and the checksum also beside the one with a single table.
 
 use bench::cases;
 use criterion::{criterion_group, criterion_main, Criterion};

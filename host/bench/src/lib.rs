@@ -1,6 +1,7 @@
 //! The calls that are timed, each on the same input in the proved library and in the model.
 
 mod checksums;
+mod tables;
 
 use checksums::checksums;
 use model::build::heaps::{property_context, HeapPlan};
@@ -8,6 +9,7 @@ use model::build::{build, Built, Plan};
 use model::random::Random;
 use rekwonuda_sys::{self as proved, NodeAnswer, MOST_NODES};
 use std::sync::Arc;
+use tables::tables;
 
 const LARGEST_BLOCK: usize = 8_176;
 const SEED: u64 = 1;
@@ -21,7 +23,7 @@ pub struct Case {
     pub input: String,
     pub proved: Timed,
     pub model: Timed,
-    /// Of a call for a list: as many single calls of the proved library.
+    /// Of a call for a list or for a row: as many single calls of the proved library.
     pub singles: Option<Timed>,
     /// Of the checksum: one byte at a time, with one table.
     pub one_table: Option<Timed>,
@@ -80,6 +82,7 @@ pub fn cases() -> Vec<Case> {
         block_tests(),
         node_reads(),
         properties(),
+        tables(),
     ]
     .into_iter()
     .flatten()
@@ -251,25 +254,24 @@ fn node_list(built: &Arc<Built>, nodes: &Arc<Vec<u64>>, input: String) -> Case {
         move || {
             let area = places.as_flattened_mut();
             assert_eq!(proved::find_nodes(&left.image, &listed, area).refusal, 0);
-            sum(&places)
+            sum(places.as_flattened())
         },
         move || {
             let area = also_places.as_flattened_mut();
             model::find_nodes(&right.image, &also_listed, area).expect("the list is not too long");
-            sum(&also_places)
+            sum(also_places.as_flattened())
         },
     )
     .with_singles(move || {
         for (place, node) in single_places.iter_mut().zip(one_by_one.iter()) {
             *place = proved::find_node(&single.image, *node).fields();
         }
-        sum(&single_places)
+        sum(single_places.as_flattened())
     })
 }
 
-fn sum(places: &[[u64; NodeAnswer::WORDS]]) -> u64 {
-    let words = places.as_flattened().iter();
-    words.fold(0, |sum, word| sum.wrapping_add(*word))
+fn sum(words: &[u64]) -> u64 {
+    words.iter().fold(0, |sum, word| sum.wrapping_add(*word))
 }
 
 fn block_lookups() -> Vec<Case> {

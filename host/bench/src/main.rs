@@ -1,6 +1,7 @@
 //! Times every call in the proved library and in the model, in alternation, and prints a table; behind it
-//! a second one, of calls for a list beside as many single calls of the proved library, and a third, of
-//! the checksum beside plain Rust with the same eight tables, which is the model's, and with one table.
+//! a second one, of calls for a list beside as many single calls of the proved library, a third, of the
+//! checksum beside plain Rust with the same eight tables, which is the model's, and with one table, and a
+//! fourth, of calls for a row beside a call of the proved library for each of its cells.
 //!
 //! `ratios [WORD]` takes only the calls whose name has that word in it. The ratio is taken in each
 //! round, right after one another, so that a busy machine slows both; its median is printed, and
@@ -16,30 +17,59 @@ const ROUND: Duration = Duration::from_millis(5);
 
 fn main() {
     let word = env::args().nth(1).unwrap_or_default();
-    let (mut beside_singles, mut beside_one_table) = (Vec::new(), Vec::new());
+    let mut further = Further::default();
     print_head("proved", &["model"]);
     for mut case in cases() {
         if case.call.contains(&word) {
             let times = measure(&mut case);
             println!("{}", row(&case, &times.proved, &[&times.model]));
-            if let Some(singles) = &times.singles {
-                beside_singles.push(row(&case, &times.proved, &[singles]));
-            }
-            if let Some(one_table) = &times.one_table {
-                let others = [&times.model[..], one_table];
-                beside_one_table.push(row(&case, &times.proved, &others));
-            }
+            further.add(&case, &times);
         }
     }
-    if !beside_singles.is_empty() {
-        println!("\nOne call for a list, beside as many single calls:\n");
-        print_head("one call", &["single calls"]);
-        println!("{}", beside_singles.join("\n"));
+    further.print();
+}
+
+/// The rows of the tables behind the first.
+#[derive(Default)]
+struct Further {
+    lists: Vec<String>,
+    checksums: Vec<String>,
+    cells: Vec<String>,
+}
+
+impl Further {
+    fn add(&mut self, case: &Case, times: &Times) {
+        if let Some(singles) = &times.singles {
+            let row = row(case, &times.proved, &[singles]);
+            match case.call {
+                "read_row" => self.cells.push(row),
+                _ => self.lists.push(row),
+            }
+        }
+        if let Some(one_table) = &times.one_table {
+            let others = [&times.model[..], one_table];
+            self.checksums.push(row(case, &times.proved, &others));
+        }
     }
-    if !beside_one_table.is_empty() {
-        println!("\nThe checksum, beside plain Rust with eight tables and with one:\n");
-        print_head("proved", &["plain Rust", "one table"]);
-        println!("{}", beside_one_table.join("\n"));
+
+    fn print(&self) {
+        let lists = "One call for a list, beside as many single calls:";
+        let singles = ("one call", &["single calls"][..]);
+        print_table(lists, singles, &self.lists);
+        let checksums = "The checksum, beside plain Rust with eight tables and with one:";
+        let plain = ("proved", &["plain Rust", "one table"][..]);
+        print_table(checksums, plain, &self.checksums);
+        let cells = "One call for a row, beside a call for each of its cells:";
+        print_table(cells, singles, &self.cells);
+    }
+}
+
+/// Nothing of a table without rows.
+fn print_table(about: &str, (left, others): (&str, &[&str]), rows: &[String]) {
+    if !rows.is_empty() {
+        println!("\n{about}\n");
+        print_head(left, others);
+        println!("{}", rows.join("\n"));
     }
 }
 
