@@ -1,4 +1,4 @@
--- The quick pass, column by column: a column whose tag lies above those before it, and whose bytes and bit
+-- The quick pass, column by column: a column whose tag differs from those before it, and whose bytes and bit
 -- have no mark yet, is apart from each of them. Assumes nothing.
 use Prim.Native.Nat.{ℕ, _+_, _-_, _≤_, _<_}
 use mathlib.Core.Path.{_≡_, refl, sym, ap, _∙_, subst}
@@ -14,7 +14,7 @@ use Rattle.columns.specs.Record.{existenceStart}
 use Rattle.columns.specs.Columns.{columnAt, allApart}
 use Rattle.columns.specs.Sound.{Takes, ColumnSound, Apart}
 use Rattle.columns.proofs.ColumnLaws.{width-bounds, all-on, from-holds}
-use Rattle.apart.specs.Steps.{marked, Free, Surely}
+use Rattle.apart.specs.Steps.{marked, Free, Differ, Surely}
 use Rattle.apart.proofs.MarkLaws.{marked-inside, marked-kept}
 
 -- two marks that differ stand at two places
@@ -47,35 +47,34 @@ up-to P n before last j h = by (leb n j) refl
     by false l = before j (leb-false n j l)
 
 module _ (table : List ℕ) where
-  pub surely-none : (bytes bits : List ℕ) → Surely table 0 bytes bits 0
+  pub surely-none : (bytes bits : List ℕ) → Surely table 0 bytes bits
   unfolding allApart
   surely-none bytes bits =
-      record { apart = refl; tags = λ j h. absurd (omega arith); bytes-marked = λ j place h t. absurd (omega arith); bits-marked = λ j h. absurd (omega arith) }
+      record { apart = refl; bytes-marked = λ j place h t. absurd (omega arith); bits-marked = λ j h. absurd (omega arith) }
 
-  module _ (n : ℕ) (bytes bits : List ℕ) (above : ℕ) (sure : Surely table n bytes bits above)
+  module _ (n : ℕ) (bytes bits : List ℕ) (sure : Surely table n bytes bits)
       (each : (i : ℕ) → i < n + 1 → ColumnSound table (columnAt table i)) where
     wide : (i : ℕ) → i < n + 1 → 1 ≤ (columnAt table i) .width
     wide i h = width-bounds (columnAt table i) table (each i h) .0
 
-    beside : (column : Column) → above ≤ column .tag → Free bytes (column .offset) (column .width) → Free bits (column .bit) 1
+    beside : (column : Column) → ((i : ℕ) → i < n → (columnAt table i) .tag ≡ column .tag → ⊥) → Free bytes (column .offset) (column .width) → Free bits (column .bit) 1
         → (i : ℕ) → i < n → Apart (columnAt table i) column
-    beside column up no-byte no-bit i h =
+    beside column new no-byte no-bit i h =
         record {
-          tag = λ (e : (columnAt table i) .tag ≡ column .tag). let low = sure .tags i h in omega (arith, e, low, up);
+          tag = new i h;
           byte = λ place t k. no-place bytes place place refl (sure .bytes-marked i place h t) (free-byte bytes column no-byte place k);
           bit = λ (e : (columnAt table i) .bit ≡ column .bit). no-place bits ((columnAt table i) .bit) (column .bit + 0) (omega (arith, e)) (sure .bits-marked i h) (no-bit 0 (omega arith));
         }
 
-    step : existenceStart table ≤ length bytes → (columnAt table n) .bit < length bits → above ≤ (columnAt table n) .tag
+    step : existenceStart table ≤ length bytes → (columnAt table n) .bit < length bits → Differ table (n + 1)
         → Free bytes ((columnAt table n) .offset) ((columnAt table n) .width) → Free bits ((columnAt table n) .bit) 1
-        → Surely table (n + 1) (marked bytes ((columnAt table n) .offset) ((columnAt table n) .width)) (marked bits ((columnAt table n) .bit) 1) ((columnAt table n) .tag + 1)
-    step row room up no-byte no-bit =
+        → Surely table (n + 1) (marked bytes ((columnAt table n) .offset) ((columnAt table n) .width)) (marked bits ((columnAt table n) .bit) 1)
+    step row room differ no-byte no-bit =
         let column = columnAt table n in
         let before = each n (omega arith) .before in
         let inside : column .offset + column .width ≤ length bytes = omega (arith, before, row) in
         record {
-          apart = all-on table n ∙ both-and _ _ (sure .apart) (from-holds table column (wide n (omega arith)) n (λ i h. (wide i (omega arith), beside column up no-byte no-bit i h)));
-          tags = up-to (λ (j : ℕ). (columnAt table j) .tag < column .tag + 1) n (λ j h. let low = sure .tags j h in omega (arith, low, up)) (omega arith);
+          apart = all-on table n ∙ both-and _ _ (sure .apart) (from-holds table column (wide n (omega arith)) n (λ i h. (wide i (omega arith), beside column (λ j l. differ j n l (omega arith)) no-byte no-bit i h)));
           bytes-marked = λ j place h. up-to (λ (j : ℕ). Takes (columnAt table j) place → getD (marked bytes (column .offset) (column .width)) place 0 ≡ 1) n
               (λ j h t. marked-kept bytes (column .offset) (column .width) inside place (sure .bytes-marked j place h t)) (byte-marked bytes column inside place) j h;
           bits-marked = up-to (λ (j : ℕ). getD (marked bits (column .bit) 1) ((columnAt table j) .bit) 0 ≡ 1) n
@@ -90,14 +89,14 @@ module _ (table : List ℕ) where
       omega (arith, before, same, row)
 
   -- as the code has it: the column that was read, and the marks after it
-  pub surely-on : (n : ℕ) (bytes bits bytes-after bits-after : List ℕ) (above : ℕ) (column : Column) → columnAt table n ≡ column
+  pub surely-on : (n : ℕ) (bytes bits bytes-after bits-after : List ℕ) (column : Column) → columnAt table n ≡ column
       → ((i : ℕ) → i < n + 1 → ColumnSound table (columnAt table i)) → existenceStart table ≤ length bytes → column .bit < length bits
       → bytes-after ≡ marked bytes (column .offset) (column .width) → bits-after ≡ marked bits (column .bit) 1
-      → Surely table n bytes bits above → Free bytes (column .offset) (column .width) → Free bits (column .bit) 1 → above ≤ column .tag
-      → Surely table (n + 1) bytes-after bits-after (column .tag + 1)
-  surely-on n bytes bits bytes-after bits-after above column e each row room byte-marks bit-marks before no-byte no-bit up =
-      subst (λ (x : List ℕ). Surely table (n + 1) x bits-after (column .tag + 1)) (sym byte-marks)
-      (subst (λ (x : List ℕ). Surely table (n + 1) (marked bytes (column .offset) (column .width)) x (column .tag + 1)) (sym bit-marks)
-      (subst (λ (x : Column). x .bit < length bits → above ≤ x .tag → Free bytes (x .offset) (x .width) → Free bits (x .bit) 1
-      → Surely table (n + 1) (marked bytes (x .offset) (x .width)) (marked bits (x .bit) 1) (x .tag + 1))
-      e (step n bytes bits above before each row) room up no-byte no-bit))
+      → Surely table n bytes bits → Free bytes (column .offset) (column .width) → Free bits (column .bit) 1 → Differ table (n + 1)
+      → Surely table (n + 1) bytes-after bits-after
+  surely-on n bytes bits bytes-after bits-after column e each row room byte-marks bit-marks before no-byte no-bit differ =
+      subst (λ (x : List ℕ). Surely table (n + 1) x bits-after) (sym byte-marks)
+      (subst (λ (x : List ℕ). Surely table (n + 1) (marked bytes (column .offset) (column .width)) x) (sym bit-marks)
+      (subst (λ (x : Column). x .bit < length bits → Differ table (n + 1) → Free bytes (x .offset) (x .width) → Free bits (x .bit) 1
+      → Surely table (n + 1) (marked bytes (x .offset) (x .width)) (marked bits (x .bit) 1))
+      e (step n bytes bits before each row) room differ no-byte no-bit))

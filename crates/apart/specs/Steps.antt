@@ -16,9 +16,20 @@ marked marks from (suc n) = set (marked marks from n) (from + n) 1
 abbrev pub Free : List ℕ → ℕ → ℕ → Type 0
 Free marks from n = (i : ℕ) → i < n → getD marks (from + i) 0 ≡ 0
 
--- the first n columns are apart; the marks of their bytes and bits are set, and their tags lie below `above`
-pub record Surely (table : List ℕ) (n : ℕ) (bytes bits : List ℕ) (above : ℕ) : Type 0 where
+-- a tag is none of the first n of these
+abbrev pub New : List ℕ → ℕ → ℕ → Type 0
+New tags n tag = (i : ℕ) → i < n → getD tags i 0 ≡ tag → ⊥
+
+-- these begin with the tags of the first n columns
+abbrev pub Kept : List ℕ → List ℕ → ℕ → Type 0
+Kept table tags n = (i : ℕ) → i < n → getD tags i 0 ≡ (columnAt table i) .tag
+
+-- no two of the first n columns have one tag
+abbrev pub Differ : List ℕ → ℕ → Type 0
+Differ table n = (i j : ℕ) → i < j → j < n → (columnAt table i) .tag ≡ (columnAt table j) .tag → ⊥
+
+-- the first n columns are apart, and the marks of their bytes and bits are set
+pub record Surely (table : List ℕ) (n : ℕ) (bytes bits : List ℕ) : Type 0 where
   pub apart : allApart table n ≡ true
-  pub tags : (j : ℕ) → j < n → (columnAt table j) .tag < above
   pub bytes-marked : (j place : ℕ) → j < n → Takes (columnAt table j) place → getD bytes place 0 ≡ 1
   pub bits-marked : (j : ℕ) → j < n → getD bits ((columnAt table j) .bit) 0 ≡ 1

@@ -61,21 +61,21 @@ module _ (table : List ℕ) (sound : RecordSound table) where
   count = columnCount table
 
   -- the tags, one by one
-  tag-at : (i : ℕ) → i < count → keyAt (columnShape table) (columnBytes table) i ≡ (columnAt table i) .tag
+  tag-at : (i : ℕ) → i < count → keyAt columnShape (columnBytes table) i ≡ (columnAt table i) .tag
   unfolding columnBytes columnAt significant
   tag-at i h =
       let place : 22 + i * 8 ≡ 22 + 8 * i = ap (λ (n : ℕ). 22 + n) (mul-comm i 8) in
-      key-is (columnShape table) (columnBytes table) i (omega arith)
+      key-is columnShape (columnBytes table) i (omega arith)
       ∙ field-part table 22 (8 * count) (i * 8) 4 (omega arith)
       ∙ ap (λ (n : ℕ). field table n 4) place
 
-  from-tag : (n i : ℕ) → i + n < count → getD (keysFrom (columnShape table) count (columnBytes table) i) n 0 ≡ (columnAt table (i + n)) .tag
+  from-tag : (n i : ℕ) → i + n < count → getD (keysFrom columnShape count (columnBytes table) i) n 0 ≡ (columnAt table (i + n)) .tag
   from-tag zero i h =
       let none : i + 0 ≡ i = omega arith in
-      ap (λ (l : List ℕ). getD l 0 0) (keys-at (columnShape table) count (columnBytes table) i (omega arith)) ∙ tag-at i (omega arith) ∙ ap (λ (m : ℕ). (columnAt table m) .tag) (sym none)
+      ap (λ (l : List ℕ). getD l 0 0) (keys-at columnShape count (columnBytes table) i (omega arith)) ∙ tag-at i (omega arith) ∙ ap (λ (m : ℕ). (columnAt table m) .tag) (sym none)
   from-tag (suc n) i h =
       let on : i + 1 + n ≡ i + suc n = omega arith in
-      ap (λ (l : List ℕ). getD l (suc n) 0) (keys-at (columnShape table) count (columnBytes table) i (omega arith))
+      ap (λ (l : List ℕ). getD l (suc n) 0) (keys-at columnShape count (columnBytes table) i (omega arith))
       ∙ from-tag n (i + 1) (omega arith)
       ∙ ap (λ (m : ℕ). (columnAt table m) .tag) on
 
@@ -83,19 +83,19 @@ module _ (table : List ℕ) (sound : RecordSound table) where
   unfolding tags
   tag-is i h =
       let none : 0 + i ≡ i = omega arith in
-      ap (λ (l : List ℕ). getD l i 0) (sym (keys-all (columnShape table) count (columnBytes table)))
+      ap (λ (l : List ℕ). getD l i 0) (sym (keys-all columnShape count (columnBytes table)))
       ∙ from-tag i 0 (omega arith)
       ∙ ap (λ (m : ℕ). (columnAt table m) .tag) none
 
   pub tags-length : length (tags table) ≡ count
   unfolding tags
   tags-length =
-      ap length (keys-are (columnShape table) count (columnBytes table)) ∙ length-map (records (columnShape table) count (columnBytes table)) (keyOf (columnShape table)) ∙ records-length (columnShape table) count (columnBytes table)
+      ap length (keys-are columnShape count (columnBytes table)) ∙ length-map (records columnShape count (columnBytes table)) (keyOf columnShape) ∙ records-length columnShape count (columnBytes table)
 
   -- a column that is found is one of them
   pub seat-inside : (tag i : ℕ) → At i ≡ seatOf table tag → i < count
   unfolding seatOf tags
-  seat-inside tag i e = found-inside (columnShape table) count (columnBytes table) Equal tag i e
+  seat-inside tag i e = found-inside columnShape count (columnBytes table) Equal tag i e
 
   -- none is found exactly when none has the tag
   pub unknown-exactly : (tag : ℕ) → (seatOf table tag ≡ Nowhere) ↔ Missing tag (tags table)

@@ -41,6 +41,10 @@ apart one other =
     && (leb (one .offset + one .width) (other .offset) || leb (other .offset + other .width) (one .offset))
     && not (eqb (one .bit) (other .bit))
 
+-- a column as a record with a key in front, its tag
+abbrev pub columnShape : Shape
+columnShape = record { size = 8; width = 4; reserved = false }
+
 module _ (table : List ℕ) where
   -- each of the first n columns
   unfoldable pub eachFits : ℕ → Bool
@@ -60,9 +64,6 @@ module _ (table : List ℕ) where
   columnsFit = eachFits (columnCount table) && allApart (columnCount table)
 
   -- the columns as records with their tags in front; where the column with a tag stands among them
-  abbrev pub columnShape : Shape
-  columnShape = record { size = 8; width = 4; reserved = false }
-
   unfoldable pub columnBytes : List ℕ
   columnBytes = part table 22 (8 * columnCount table)
 

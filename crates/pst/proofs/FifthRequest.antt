@@ -159,7 +159,7 @@ row-answered : (block : List ℕ) (id : ℕ) → (refuses (rowOutcome block id) 
 unfolding rowOutcome
 row-answered block id = both-ways (row-not-refused (rowOf block id)) (row-answered-exactly block id)
 
-row-absent-iff : (block : List ℕ) (id : ℕ) → IndexSound block → (rowOutcome block id ≡ absent []) ↔ Missing id (map (rowId block) (rowRecords block))
+row-absent-iff : (block : List ℕ) (id : ℕ) → IndexSound block → (rowOutcome block id ≡ absent []) ↔ Missing id (map rowId (rowRecords block))
 unfolding rowOutcome rowMeans
 row-absent-iff block id s =
     both-ways ((λ e. row-injective (rowOf block id) row.Absent e), (λ e. ap rowMeans e)) (row-scan-holds block s .absent-iff id)

@@ -312,9 +312,9 @@ pub record FifthRequest : Type 0 where
       → cellIn block table one row tag ≡ cellIn block table other row tag
   -- the row index: answered, or absent, exactly when each rule that is tried holds; in a sound one as the plain scan of all its leaf records
   pub row-answered : (block : List ℕ) (id : ℕ) → (refuses (rowOutcome block id) ≡ false) ↔ AllHold (rowRules block id)
-  pub row-scanned : (block : List ℕ) (id : ℕ) → IndexSound block → rowOutcome block id ≡ rowMeans (rowFrom block (answer (withKey (rowId block) id (rowRecords block)) 0))
-  pub row-ascending : (block : List ℕ) → IndexSound block → Ascending (map (rowId block) (rowRecords block))
-  pub row-absent-iff : (block : List ℕ) (id : ℕ) → IndexSound block → (rowOutcome block id ≡ absent []) ↔ Missing id (map (rowId block) (rowRecords block))
+  pub row-scanned : (block : List ℕ) (id : ℕ) → IndexSound block → rowOutcome block id ≡ rowMeans (rowFrom (answer (withKey rowId id (rowRecords block)) 0))
+  pub row-ascending : (block : List ℕ) → IndexSound block → Ascending (map rowId (rowRecords block))
+  pub row-absent-iff : (block : List ℕ) (id : ℕ) → IndexSound block → (rowOutcome block id ≡ absent []) ↔ Missing id (map rowId (rowRecords block))
   -- all cells of a row in one call: as many as there are columns; each place has the words of what the call for that cell answers, and of no other answer; what lies behind stays, and all where the row is absent
   pub cells-counted : (block rows : List ℕ) (row n : ℕ) (area : List ℕ) → readRowOutcome block rows row area ≡ answered (n ∷ []) → n ≡ columnCount (tableRecord block)
   pub cell-places : (block rows : List ℕ) (row n : ℕ) (area : List ℕ) (i : ℕ) (given : Cell) → readRowOutcome block rows row area ≡ answered (n ∷ []) → i < n

@@ -26,7 +26,7 @@ use Rattle.cells.specs.Rows.{rowBytes, rowsRules, rowsTest, rowCount}
 use Rattle.cells.proofs.HeldLaws.{rows-exactly}
 use Rattle.rowcells.specs.declared.RowRead.{RowRead}
 use Rattle.rowcells.specs.declared.RowRead.the-variants.{Cells, Absent, Refused}
-use Rattle.rowcells.specs.RowCells.{areaRules, placeOf, placesOf, columns, isThere, readRowRules, rowRead, rowArea}
+use Rattle.rowcells.specs.RowCells.{areaRules, placeOf, placesOf, isThere, readRowRules, rowRead, rowArea}
 use Rattle.rowcells.proofs.Words.{place-length}
 
 -- the area's rule
@@ -52,15 +52,15 @@ module _ (block rows : List ℕ) (row : ℕ) where
     area-refused area = ends (λ refusal. area) _ _ r e
 
   module _ (held : rowsTest block rows ≡ verdict.Accepted) where
-    on-read : (words : ℕ) (b : Bool) → isThere block rows row ≡ b → rowRead block rows row words ≡ cond b (after Refused (inOrder (areaRules (columns block rows row) words)) (Cells (columns block rows row))) Absent
+    on-read : (words : ℕ) (b : Bool) → isThere block rows row ≡ b → rowRead block rows row words ≡ cond b (after Refused (inOrder (areaRules (columnCount (tableRecord block)) words)) (Cells (columnCount (tableRecord block)))) Absent
     unfolding rowRead
-    on-read words b t = goes Refused _ _ held ∙ ap (λ (x : Bool). cond x (after Refused (inOrder (areaRules (columns block rows row) words)) (Cells (columns block rows row))) Absent) t
+    on-read words b t = goes Refused _ _ held ∙ ap (λ (x : Bool). cond x (after Refused (inOrder (areaRules (columnCount (tableRecord block)) words)) (Cells (columnCount (tableRecord block)))) Absent) t
 
-    on-area : (area : List ℕ) (b : Bool) → isThere block rows row ≡ b → rowArea block rows row area ≡ cond b (after (λ refusal. area) (inOrder (areaRules (columns block rows row) (length area))) (fronted (placesOf block rows row) area)) area
+    on-area : (area : List ℕ) (b : Bool) → isThere block rows row ≡ b → rowArea block rows row area ≡ cond b (after (λ refusal. area) (inOrder (areaRules (columnCount (tableRecord block)) (length area))) (fronted (placesOf block rows row) area)) area
     unfolding rowArea
     on-area area b t =
         goes (λ refusal. area) _ _ held
-        ∙ ap (λ (x : Bool). cond x (after (λ refusal. area) (inOrder (areaRules (columns block rows row) (length area))) (fronted (placesOf block rows row) area)) area) t
+        ∙ ap (λ (x : Bool). cond x (after (λ refusal. area) (inOrder (areaRules (columnCount (tableRecord block)) (length area))) (fronted (placesOf block rows row) area)) area) t
 
     module _ (past : count < row + 1) where
       pub read-absent : (words : ℕ) → rowRead block rows row words ≡ Absent
@@ -106,18 +106,18 @@ then-accepted (verdict.Refused r) = refl
 
 module _ (block rows : List ℕ) (row words : ℕ) where
   inside : Bool → RowRead
-  inside b = cond b (after Refused (inOrder (areaRules (columns block rows row) words)) (Cells (columns block rows row))) Absent
+  inside b = cond b (after Refused (inOrder (areaRules (columnCount (tableRecord block)) words)) (Cells (columnCount (tableRecord block)))) Absent
 
-  inside-tried : (b : Bool) → inOrder (cond b (areaRules (columns block rows row) words) []) ≡ refusalIn (inside b)
+  inside-tried : (b : Bool) → inOrder (cond b (areaRules (columnCount (tableRecord block)) words) []) ≡ refusalIn (inside b)
   unfolding inside inOrder refusalIn
   inside-tried true =
-      sym (refusal-after (inOrder (areaRules (columns block rows row) words)) (Cells (columns block rows row)) ∙ then-accepted (inOrder (areaRules (columns block rows row) words)))
+      sym (refusal-after (inOrder (areaRules (columnCount (tableRecord block)) words)) (Cells (columnCount (tableRecord block))) ∙ then-accepted (inOrder (areaRules (columnCount (tableRecord block)) words)))
   inside-tried false = refl
 
   read-tried : inOrder (readRowRules block rows row words) ≡ refusalIn (rowRead block rows row words)
   unfolding readRowRules rowRead rowsTest inside
   read-tried =
-      in-order-append (rowsRules block rows) (cond (isThere block rows row) (areaRules (columns block rows row) words) [])
+      in-order-append (rowsRules block rows) (cond (isThere block rows row) (areaRules (columnCount (tableRecord block)) words) [])
       ∙ ap (λ (v : Verdict). inOrder (rowsRules block rows) then v) (inside-tried (isThere block rows row))
       ∙ sym (refusal-after (inOrder (rowsRules block rows)) (inside (isThere block rows row)))
 

@@ -41,22 +41,19 @@ module _ (block rows : List ℕ) (row : ℕ) where
   abbrev pub placesOf : List ℕ
   placesOf = joined placeOf (tags (tableRecord block))
 
-  abbrev pub columns : ℕ
-  columns = columnCount (tableRecord block)
-
   -- whether there is such a row
   abbrev pub isThere : Bool
   isThere = leb (row + 1) (rowCount (tableRecord block) (rowBytes block rows))
 
   -- all rules that are tried: those of a cell before its row number, then that of the area
   unfoldable pub readRowRules : ℕ → List Rule
-  readRowRules words = rowsRules block rows ++ cond isThere (areaRules columns words) []
+  readRowRules words = rowsRules block rows ++ cond isThere (areaRules (columnCount (tableRecord block)) words) []
 
   -- a row number past the end is absent
   unfoldable pub rowRead : ℕ → RowRead
-  rowRead words = after answer.Refused (rowsTest block rows) (cond isThere (after answer.Refused (inOrder (areaRules columns words)) (answer.Cells columns)) answer.Absent)
+  rowRead words = after answer.Refused (rowsTest block rows) (cond isThere (after answer.Refused (inOrder (areaRules (columnCount (tableRecord block)) words)) (answer.Cells (columnCount (tableRecord block)))) answer.Absent)
 
   -- the area at exit: nothing is written where the row is absent or the call refused, and what lies behind the places stays
   unfoldable pub rowArea : List ℕ → List ℕ
   rowArea area =
-      after (λ r. area) (rowsTest block rows) (cond isThere (after (λ r. area) (inOrder (areaRules columns (length area))) (fronted placesOf area)) area)
+      after (λ r. area) (rowsTest block rows) (cond isThere (after (λ r. area) (inOrder (areaRules (columnCount (tableRecord block)) (length area))) (fronted placesOf area)) area)

@@ -59,7 +59,7 @@ module _ (block : List ℕ) where
   unfolding rowOf
   row-refused id r e = ends row.Refused _ _ r e
 
-  pub row-on : (id : ℕ) → indexTest block ≡ Accepted → rowOf block id ≡ rowFrom block (fromRoot rowIndex block (indexRoot block) id)
+  pub row-on : (id : ℕ) → indexTest block ≡ Accepted → rowOf block id ≡ rowFrom (fromRoot rowIndex block (indexRoot block) id)
   unfolding rowOf
   row-on id e = goes row.Refused _ _ e
 

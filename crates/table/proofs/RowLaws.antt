@@ -46,7 +46,7 @@ refusal-after verdict.Accepted f = refl
 refusal-after (verdict.Refused r) f = refl
 
 module _ (block : List ℕ) where
-  answer-tried : (a : Answer (List ℕ)) → verdictOf a ≡ refusalIn (rowFrom block a)
+  answer-tried : (a : Answer (List ℕ)) → verdictOf a ≡ refusalIn (rowFrom a)
   unfolding verdictOf byCase refusalIn
   answer-tried (found entry n) = refl
   answer-tried (absent n) = refl
@@ -58,7 +58,7 @@ module _ (block : List ℕ) where
       let before = tableRules block ++ rootRules rowIndex block (indexRoot block) in
       in-order-append before (pathRules rowIndex block (indexRoot block) id)
       ∙ ap (λ (v : Verdict). inOrder before then v) (path-tried rowIndex block (indexRoot block) id ∙ answer-tried (fromRoot rowIndex block (indexRoot block) id))
-      ∙ sym (refusal-after (inOrder before) (rowFrom block (fromRoot rowIndex block (indexRoot block) id)))
+      ∙ sym (refusal-after (inOrder before) (rowFrom (fromRoot rowIndex block (indexRoot block) id)))
 
   -- answered, or absent, exactly when each rule holds
   pub row-answered-exactly : (id : ℕ) → (refusalIn (rowOf block id) ≡ verdict.Accepted) ↔ AllHold (rowRules block id)
@@ -79,7 +79,7 @@ module _ (block : List ℕ) where
   abbrev told : List ℕ → FoundRow
   told entry = Row (field entry 4 4)
 
-  answer-there : (o : Option (List ℕ)) → rowFrom block (answer o 0) ≡ Absent → o ≡ none
+  answer-there : (o : Option (List ℕ)) → rowFrom (answer o 0) ≡ Absent → o ≡ none
   answer-there none e = refl
   answer-there (some entry) e =
       let there = sym (case-some told Absent Refused entry 0) ∙ e in
@@ -90,14 +90,14 @@ module _ (block : List ℕ) (sound : IndexSound block) where
   tree : TreeAsScanned rowIndex block (indexRoot block)
   tree = tree-holds rowIndex block (indexRoot block) (sound .tree)
 
-  scan-answers : (id : ℕ) → rowOf block id ≡ rowFrom block (answer (withKey (rowId block) id (rowRecords block)) 0)
+  scan-answers : (id : ℕ) → rowOf block id ≡ rowFrom (answer (withKey rowId id (rowRecords block)) 0)
   scan-answers id =
       row-on block id (index-exactly block .1 (sound .table, sound .tree .record-fits)) ∙ read-says _ _ _ _ _ (tree .answers id)
 
-  scan-absent : (id : ℕ) → (rowOf block id ≡ Absent) ↔ Missing id (map (rowId block) (rowRecords block))
+  scan-absent : (id : ℕ) → (rowOf block id ≡ Absent) ↔ Missing id (map rowId (rowRecords block))
   scan-absent id = (
-    (λ e. missing-exactly (rowId block) id (rowRecords block) .0 (answer-there block (withKey (rowId block) id (rowRecords block)) (sym (scan-answers id) ∙ e))),
-    (λ m. scan-answers id ∙ ap (λ (o : Option (List ℕ)). rowFrom block (answer o 0)) (missing-exactly (rowId block) id (rowRecords block) .1 m) ∙ case-none (told block) Absent Refused 0),
+    (λ e. missing-exactly rowId id (rowRecords block) .0 (answer-there block (withKey rowId id (rowRecords block)) (sym (scan-answers id) ∙ e))),
+    (λ m. scan-answers id ∙ ap (λ (o : Option (List ℕ)). rowFrom (answer o 0)) (missing-exactly rowId id (rowRecords block) .1 m) ∙ case-none (told block) Absent Refused 0),
   )
 
 -- the theorem: a lookup in a sound row index answers as the plain scan does

@@ -25,6 +25,13 @@ use Rattle.table.specs.Context.{tableRecord, tableRules, TableSound}
 abbrev pub rowIndex : HeapTree
 rowIndex = record { key = 4; entry = 4; fault = TableShape }
 
+-- the id of a leaf record; "the row number is answered as stored"
+abbrev pub rowId : List ℕ → ℕ
+rowId entry = recordKey rowIndex entry
+
+abbrev pub rowFrom : Answer (List ℕ) → FoundRow
+rowFrom answer = byCase (λ entry. Row (field entry 4 4)) Absent Refused answer
+
 module _ (block : List ℕ) where
   -- the item from which it starts
   abbrev pub indexRoot : ℕ
@@ -38,10 +45,6 @@ module _ (block : List ℕ) where
   unfoldable pub rowRules : ℕ → List Rule
   rowRules id = (tableRules block ++ rootRules rowIndex block indexRoot) ++ pathRules rowIndex block indexRoot id
 
-  -- "the row number is answered as stored"
-  abbrev pub rowFrom : Answer (List ℕ) → FoundRow
-  rowFrom answer = byCase (λ entry. Row (field entry 4 4)) Absent Refused answer
-
   -- "root 0 absent"
   unfoldable pub rowOf : ℕ → FoundRow
   rowOf id = after Refused indexTest (rowFrom (fromRoot rowIndex block indexRoot id))
@@ -51,10 +54,7 @@ module _ (block : List ℕ) where
     pub table : TableSound block
     pub tree : HeapTreeSound rowIndex block indexRoot
 
-  -- the id of a leaf record; all leaf records
-  abbrev pub rowId : List ℕ → ℕ
-  rowId entry = recordKey rowIndex entry
-
+  -- all leaf records
   abbrev pub rowRecords : List (List ℕ)
   rowRecords = leafRecords rowIndex block indexRoot
 

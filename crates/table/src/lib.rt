@@ -176,7 +176,7 @@ fn test_index(block: &[u8]) -> Verdict
 
 fn find_in_index(block: &[u8], id: u32) -> FoundRow
     requires { ⌜ TableSound (now block) × Rooted rowIndex (now block) (indexRoot (now block)) ⌝ }
-    ensures { λ r. ⌜ r ≡ rowFrom (now (block .entry)) (fromRoot rowIndex (now (block .entry)) (indexRoot (now (block .entry))) id) ⌝ }
+    ensures { λ r. ⌜ r ≡ rowFrom (fromRoot rowIndex (now (block .entry)) (indexRoot (now (block .entry))) id) ⌝ }
 {
     let root = columns::row_index_item(record_of(block));
     let found = heaptree::find_from(block, row_index(), root, id as u64);

@@ -16,7 +16,7 @@ returns c =
 returns-2 : tie.Need-returns-2
 unfolding columnsFit
 returns-2 c =
-    sym (both-and _ _ (holds _ _ (c .before .before .before .each-fits .ensures) (c .before .before .if1 .left)) (c .before .apart-surely .ensures (c .if2 .taken)))
+    sym (both-and _ _ (holds _ _ (c .before .before .before .each-fits .ensures) (c .before .before .if1 .left)) (c .before .apart-quickly .ensures (c .if2 .taken)))
 
 returns-3 : tie.Need-returns-3
 unfolding columnsFit

@@ -18,7 +18,7 @@ returns c =
     let table = c .before .before .before .before .args .table .now in
     let count = c .before .before .column-count .ensures .0 in
     c .first-that .ensures
-    ∙ ap₂ (λ (n : ℕ) (s : List ℕ). firstThat Equal (c .before .before .before .before .args .tag) (keysOf (columnShape table) n s)) count
+    ∙ ap₂ (λ (n : ℕ) (s : List ℕ). firstThat Equal (c .before .before .before .before .args .tag) (keysOf columnShape n s)) count
     (part-is table 22 (8 * c .before .before .column-count .result) ∙ ap (λ (n : ℕ). part table 22 (8 * n)) count)
 
 pub seat-of-spec : {M : Type 1} → statement M
