@@ -5,7 +5,7 @@ use Rattle.columns.proofs.column_fits.Tie as tie
 
 returns : tie.Need-returns
 unfolding columnFits
-returns c = cc
+returns c = rw (c .before .before .before .before .existence-start .ensures .0, c .before .before .before .row-size .ensures .0, c .width-fits .ensures)
 
 pub column-fits-spec : {M : Type 1} → statement M
 column-fits-spec =
