@@ -6,7 +6,7 @@ use native.Mathlib.Omega.{arith}
 use Rattle.le.specs.Bytes.{part}
 use Rattle.refusal.specs.declared.Verdict.{Verdict}
 use Rattle.refusal.specs.declared.Verdict.the-variants.{Accepted, Refused}
-use Rattle.refusal.specs.Order.{after}
+use Rattle.refusal.specs.Order.{inOrder, after}
 use Rattle.keys.specs.declared.Sought.{Sought}
 use Rattle.keys.specs.declared.Sought.the-variants.{Equal}
 use Rattle.keys.specs.Plain.{All}
@@ -24,7 +24,7 @@ use Rattle.tree.specs.Tree.{root, rootLevel, linkOf, pageTree}
 use Rattle.tree.specs.Lookup.{askedFor, searched, path, pagesRead}
 use Rattle.tree.specs.Demand3.{OffPathHolds, OffReadHolds}
 
-root-same : (L : Layout) (one other : List ℕ) → FairLayout L → part one 0 564 ≡ part other 0 564 → root L one ≡ root L other
+pub root-same : (L : Layout) (one other : List ℕ) → FairLayout L → part one 0 564 ≡ part other 0 564 → root L one ≡ root L other
 unfolding root
 root-same L one other fair e =
     rw (
@@ -38,7 +38,7 @@ module _ (L : Layout) (one other : List ℕ) (ends : fileEnd one ≡ fileEnd oth
       (λ l p. entries L (page one (p .offset))) (λ l p. entries L (page other (p .offset)))
 
   alike : (p : Link) → page one (p .offset) ≡ page other (p .offset) → Alike p
-  alike p e = record { tested = λ l. rules-agree L one other p ends e; kept = λ l. ap (entries L) e }
+  alike p e = record { tested = λ l. ap inOrder (rules-agree L one other p ends e); kept = λ l t. ap (entries L) e }
 
   all-alike : (ps : List Link) → All (λ offset. page one offset ≡ page other offset) (map (λ p. p .offset) ps) → All Alike ps
   all-alike [] a = tt
