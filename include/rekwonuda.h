@@ -27,14 +27,28 @@
  * there; rkw_next_block takes the number that it is given with all its bits. The bit counts where a
  * number goes into a signature or a cyclic key, and in page numbers and node numbers.
  *
+ * The header says where the file ends: its end-of-file number, eight bytes at 184, which rkw_header
+ * hands out as `end`. An image shorter than that is refused with 1, place 184, by the last test of the
+ * header. Every page that is read, and the room of every block that is tested or read, must end at or
+ * before both that number and the end of the image, else it is refused with 6 or 13. A number of 0 is
+ * accepted by rkw_header; every page is then refused with 6.
+ *
+ * An image may be longer than its header says. The bytes that hang on behind that number, and behind
+ * the first 564, change no answer, no refusal and no byte of a buffer while the length of the image
+ * stays within its bounds. Said exactly: two images begin with the same bytes, at least 564 of them and
+ * at least as many as the number at 184 says, and both are at most 1,073,741,824 bytes long, or neither
+ * is; then every call that takes an image gives the same for both. So one thing may differ: an image
+ * that grows over 1,073,741,824 bytes is refused with 1, place 0.
+ *
  * Refusals, each with its place:
- *    1  the image is under 564 or over 1,073,741,824 bytes long; 0
+ *    1  the image is under 564 or over 1,073,741,824 bytes long; 0. Or it is shorter than the header's
+ *       end-of-file number says, which is tested after 5; 184
  *    2  the magic bytes are wrong; 0 or 8
  *    3  the version is not 23, that of the 64-bit edition; 10
  *    4  a checksum of the header differs; 4 or 524
  *    5  the header's sentinel or encoding method is wrong; 512 or 513. From rkw_encode and
  *       rkw_decode: the method is over 2; 0
- *    6  the offset of a page is not allowed; that offset
+ *    6  the offset of a page is not allowed, or the page goes past the end of the file; that offset
  *    7  the kind of a page is wrong; the page's offset
  *    8  the number or signature of a page is wrong; the page's offset
  *    9  the checksum of a page differs; the page's offset
@@ -42,7 +56,8 @@
  *   11  the key of an entry is not above the one before it; the page's offset, and `more` is the
  *       index of the first entry at fault
  *   12  a block to be tested or read is not in the block tree; 0
- *   13  the offset or size of a block is not allowed; the block's offset
+ *   13  the offset or size of a block is not allowed, or its room goes past the end of the file; the
+ *       block's offset
  *   14  the trailer of a block is wrong; the block's offset
  *   15  the checksum of a block differs; the block's offset
  *   16  the shape of a data tree is wrong; the offset of its root block
@@ -79,10 +94,11 @@ struct rkw_answer {
 
 /* What the header says. method: how block data is encoded, 0 not at all, 1 permute, 2 cyclic.
  * nodes_number, nodes_offset: the number and the offset of the root page of the node tree;
- * blocks_number, blocks_offset: of the root page of the block tree. */
+ * blocks_number, blocks_offset: of the root page of the block tree. end: the end-of-file number, at
+ * most the length of the image. */
 struct rkw_header_answer {
     uint64_t refusal, place, more;
-    uint64_t method, nodes_number, nodes_offset, blocks_number, blocks_offset;
+    uint64_t method, nodes_number, nodes_offset, blocks_number, blocks_offset, end;
 };
 
 /* A node. found: 1 or 0. pages: how many pages were read, also where the node is absent.

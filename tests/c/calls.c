@@ -1,6 +1,7 @@
 /* Calls every function of include/rekwonuda.h on a sample and prints what it got.
  * samples/mini.img has two real root-to-leaf paths and no block. A copy of it is given one: block 4,
- * whose 108 bytes are a small heap with two properties. The table calls get a heap of their own. */
+ * whose 108 bytes are a small heap with two properties. A longer copy goes on behind the sample's end
+ * with a page and a block that its trees name there. The table calls get a heap of their own. */
 #include "rekwonuda.h"
 
 #include <inttypes.h>
@@ -8,12 +9,17 @@
 #include <string.h>
 
 enum { IMAGE = 27648, BLOCK = 4, OFFSET = 0x5800, SIZE = 108, ROOM = 128, ITEM = 0x60, LEAF = 0x5600 };
-enum { LISTED = 4, MOST = 4096, WORDS = 9, AREA = WORDS * (MOST + 1), VERSION = 10 };
+enum { LISTED = 4, MOST = 4096, WORDS = 9, AREA = WORDS * (MOST + 1), VERSION = 10, METHOD = 513, END = 184 };
 enum { COLUMNS = 4, CELL = 6, ROW = 18, LARGEST = 8176 };
 enum { TIME = 0x0E060040, NAME = 0x3001001F, FLAG = 0x360A000B, ID = 0x67F20003 };
 
+/* Behind the sample's end: page 132, which the node tree's root names for nodes from 0x804F on, and right
+ * behind it block 0x34, which the block tree lists with 140 bytes. */
+enum { NEXT_PAGE = 28160, NEXT_NUMBER = 132, NEXT_BLOCK = 28672, NEXT_SIZE = 140, NEXT_ROOM = 192, LONGER = 28864 };
+
 static uint8_t image[IMAGE + 1];
 static uint8_t filled[IMAGE];
+static uint8_t longer[LONGER];
 static uint8_t keyed[IMAGE];
 static uint8_t out[SIZE + 4];
 
@@ -93,6 +99,16 @@ static void put(uint8_t *at, unsigned width, uint64_t value)
     for (unsigned i = 0; i < width; i++) at[i] = (uint8_t)(value >> (8 * i));
 }
 
+/* Writes the trailer of a block whose bytes stand in the image already. */
+static void seal_block(uint8_t *in, size_t offset, size_t size, size_t room, uint64_t number)
+{
+    uint8_t *trailer = in + offset + room - 16;
+    put(trailer, 2, size);
+    put(trailer + 2, 2, rkw_signature(offset, number));
+    put(trailer + 4, 4, rkw_checksum(in + offset, size));
+    put(trailer + 8, 8, number);
+}
+
 static void make_block(void)
 {
     memset(heap + 36, '.', 60);
@@ -100,22 +116,37 @@ static void make_block(void)
     memcpy(heap + 96, map, sizeof map);
     memcpy(filled, image, IMAGE);
     memcpy(filled + OFFSET, heap, SIZE);
-    uint8_t *trailer = filled + OFFSET + ROOM - 16;
-    put(trailer, 2, SIZE);
-    put(trailer + 2, 2, rkw_signature(OFFSET, BLOCK));
-    put(trailer + 4, 4, rkw_checksum(heap, SIZE));
-    put(trailer + 8, 8, BLOCK);
+    seal_block(filled, OFFSET, SIZE, ROOM, BLOCK);
 }
 
-static void call_header(void)
+/* The page is a leaf with one entry, node 0x804F without data. */
+static void make_longer(void)
 {
-    struct rkw_header_answer a = rkw_header(image, IMAGE);
+    memset(longer, 0xAA, LONGER);
+    memcpy(longer, filled, IMAGE);
+    uint8_t *page = longer + NEXT_PAGE;
+    memset(page, 0, 512);
+    put(page, 8, 0x804F);
+    page[488] = 1;
+    page[489] = 15;
+    page[490] = 32;
+    put(page + 496, 2, 0x8181);
+    put(page + 498, 2, rkw_signature(NEXT_PAGE, NEXT_NUMBER));
+    put(page + 500, 4, rkw_checksum(page, 496));
+    put(page + 504, 8, NEXT_NUMBER);
+    seal_block(longer, NEXT_BLOCK, NEXT_SIZE, NEXT_ROOM, 0x34);
+}
+
+static void call_header(const uint8_t *in, size_t length)
+{
+    struct rkw_header_answer a = rkw_header(in, length);
     refusal("rkw_header", a.refusal, a.place, a.more);
     field("method", a.method);
     field("nodes_number", a.nodes_number);
     field("nodes_offset", a.nodes_offset);
     field("blocks_number", a.blocks_number);
     field("blocks_offset", a.blocks_offset);
+    field("end", a.end);
     printf("\n");
 }
 
@@ -161,9 +192,9 @@ static void block(const char *call, struct rkw_block_answer a)
     printf("\n");
 }
 
-static void call_test_block(const uint8_t *in, uint64_t number)
+static void call_test_block(const uint8_t *in, size_t length, uint64_t number)
 {
-    struct rkw_size_answer a = rkw_test_block(in, IMAGE, number);
+    struct rkw_size_answer a = rkw_test_block(in, length, number);
     refusal("rkw_test_block", a.refusal, a.place, a.more);
     field("size", a.size);
     printf("\n");
@@ -319,6 +350,72 @@ static void call_keyed(unsigned entry, uint64_t key)
     node("rkw_find_node", rkw_find_node(keyed, IMAGE, 0x122));
 }
 
+/* The longer image, or so much of it, with that end-of-file number and a header sealed again. */
+static void call_end(size_t length, uint64_t number)
+{
+    put(longer + END, 8, number);
+    put(longer + 4, 4, rkw_checksum(longer + 8, 471));
+    put(longer + 524, 4, rkw_checksum(longer + 8, 516));
+    call_header(longer, length);
+    node("rkw_find_node", rkw_find_node(longer, length, 0x804F));
+    call_test_block(longer, length, 0x34);
+}
+
+/* What every call on an image answers, and what it leaves in a buffer, one behind the other. */
+struct told {
+    uint8_t bytes[1 << 13];
+    size_t length;
+};
+
+static void keep(struct told *told, const void *from, size_t length)
+{
+    memcpy(told->bytes + told->length, from, length);
+    told->length += length;
+}
+
+static void keep_number(struct told *told, const uint8_t *in, size_t length, uint64_t number)
+{
+    struct rkw_node_answer nodes[] = {rkw_find_node(in, length, number), rkw_next_node(in, length, number)};
+    struct rkw_block_answer blocks[] = {rkw_find_block(in, length, number), rkw_next_block(in, length, number)};
+    struct rkw_size_answer size = rkw_test_block(in, length, number);
+    keep(told, nodes, sizeof nodes);
+    keep(told, blocks, sizeof blocks);
+    keep(told, &size, sizeof size);
+    memset(out, 0xAA, sizeof out);
+    struct rkw_length_answer block = rkw_read_block(in, length, number, out, sizeof out);
+    keep(told, &block, sizeof block);
+    keep(told, out, sizeof out);
+    memset(out, 0xAA, sizeof out);
+    struct rkw_data_answer data = rkw_read_node(in, length, number, out, sizeof out);
+    keep(told, &data, sizeof data);
+    keep(told, out, sizeof out);
+}
+
+static void keep_all(struct told *told, const uint8_t *in, size_t length)
+{
+    static const uint64_t asked[] = {0, BLOCK, 0x34, 0x61, 0x122, 0x60D, 0x804F, UINT64_MAX};
+    told->length = 0;
+    struct rkw_header_answer header = rkw_header(in, length);
+    struct rkw_answer checks[] = {rkw_check_nodes(in, length), rkw_check_blocks(in, length)};
+    keep(told, &header, sizeof header);
+    keep(told, checks, sizeof checks);
+    memset(places, 0xAA, sizeof places);
+    struct rkw_answer list = rkw_find_nodes(in, length, numbers, LISTED, places, AREA);
+    keep(told, &list, sizeof list);
+    keep(told, places, WORDS * (LISTED + 1) * sizeof places[0]);
+    for (size_t i = 0; i < sizeof asked / sizeof asked[0]; i++) keep_number(told, in, length, asked[i]);
+}
+
+/* Whether the first `length` bytes of the longer image are answered in every call as the sample is. */
+static void call_hanging(size_t length)
+{
+    static struct told one, other;
+    keep_all(&one, filled, IMAGE);
+    keep_all(&other, longer, length);
+    int same = one.length == other.length && !memcmp(one.bytes, other.bytes, one.length);
+    printf("%zu bytes behind the sample: %s\n", length - IMAGE, same ? "all answers the same" : "other answers");
+}
+
 static int load(const char *name)
 {
     FILE *file = fopen(name, "rb");
@@ -330,7 +427,7 @@ static int load(const char *name)
 
 static void call_trees(void)
 {
-    call_header();
+    call_header(image, IMAGE);
     verdict("rkw_check_nodes", rkw_check_nodes(image, IMAGE));
     verdict("rkw_check_blocks", rkw_check_blocks(image, IMAGE));
     node("rkw_find_node", rkw_find_node(image, IMAGE, 0x122));
@@ -373,9 +470,9 @@ static void call_keys(void)
 
 static void call_blocks(void)
 {
-    call_test_block(image, BLOCK);
-    call_test_block(filled, BLOCK);
-    call_test_block(filled, BLOCK + 1);
+    call_test_block(image, IMAGE, BLOCK);
+    call_test_block(filled, IMAGE, BLOCK);
+    call_test_block(filled, IMAGE, BLOCK + 1);
     call_read_block(sizeof out);
     call_read_block(SIZE - 1);
     call_read_node(0x60D, sizeof out);
@@ -385,6 +482,30 @@ static void call_blocks(void)
     call_read_node(0x60E, sizeof out);
     call_coding(2);
     call_coding(3);
+}
+
+/* The page ends at 28672, the block at 28864; both lie in the longer image, and in the file where its
+ * header says so. */
+static void call_ends(void)
+{
+    call_end(LONGER, LONGER);
+    call_hanging(LONGER);
+    call_end(LONGER, LONGER - 1);
+    call_end(LONGER, NEXT_BLOCK);
+    call_end(LONGER, NEXT_BLOCK - 1);
+    call_end(IMAGE, IMAGE - 1);
+    call_end(LONGER, 0);
+    call_end(LONGER, LONGER + 1);
+    call_end(LONGER - 1, LONGER);
+    call_end(IMAGE, UINT64_MAX);
+    longer[METHOD] = 3;
+    call_end(IMAGE, UINT64_MAX);
+    longer[METHOD] = 0;
+    call_end(LONGER, IMAGE);
+    call_hanging(IMAGE);
+    call_hanging(IMAGE + 1);
+    call_hanging(LONGER - 1);
+    call_hanging(LONGER);
 }
 
 static void call_heap(void)
@@ -462,10 +583,12 @@ int main(int count, char **words)
         return 2;
     }
     make_block();
+    make_longer();
     call_trees();
     call_lists();
     call_keys();
     call_blocks();
+    call_ends();
     call_heap();
     call_tables();
     call_wrong_tables();

@@ -1,24 +1,24 @@
 -- What upper layers may know of the header. Assumes nothing.
-use Prim.Native.Nat.{ℕ, _+_, _≤_, _<_}
+use Prim.Native.Nat.{ℕ, _+_, _-_, _≤_, _<_}
 use mathlib.Core.Path.{_≡_, refl, sym, ap, ap₂, _∙_}
 use mathlib.Core.Bool.{Bool, true, _&&_}
 use mathlib.Core.Logic.{_↔_}
-use mathlib.Core.List.{List}
-use native.Mathlib.Nat.{le-refl, zero-add}
+use mathlib.Core.List.{List, _++_}
+use native.Mathlib.Nat.{zero-add}
 use native.Mathlib.Omega.{arith}
 use lib.Dec.{eqb, leb}
 use lib.ListN.{length}
 use borrow.Author.Tests.{leb-true, eqb-true, le-leb, eq-eqb}
 use Rattle.laws.proofs.Tests.{and-both, both-and}
 use Rattle.le.specs.Bytes.{littleEndian, byte, field, part}
-use Rattle.le.proofs.FieldLaws.{part-part, part-append, byte-part}
+use Rattle.le.proofs.FieldLaws.{part-part, part-append, byte-part, field-none, field-cut}
 use Rattle.crc.specs.Checksum.{checksum, checksumFrom}
 use Rattle.crc.proofs.ChecksumLaws.{checksum-append}
 use Rattle.refusal.specs.declared.Refusal.{Refusal}
 use Rattle.refusal.specs.declared.Verdict.the-variants.{Accepted, Refused}
 use Rattle.refusal.specs.Order.{_then_, inOrder, AllHold, none, both, FirstFault}
 use Rattle.refusal.proofs.OrderLaws.{demanded, then-left, accepted-exactly, refused-exactly, in-order-append}
-use Rattle.header.specs.Header.{lengthFits, magicFits, clientFits, versionFits, headerSumFits, sentinelFits, methodOf, encodingFits, markRules, sealRules, headerRules, headerFits, fileEnd}
+use Rattle.header.specs.Header.{lengthFits, magicFits, clientFits, versionFits, headerSumFits, sentinelFits, methodOf, encodingFits, statedEnd, endFits, markRules, sealRules, lastRules, headerRules, headerFits, referenceAt, says, fileEnd}
 use Rattle.header.specs.Sound.{HeaderSound}
 
 pub long-enough : (image : List ℕ) → lengthFits image ≡ true → 564 ≤ length image
@@ -34,10 +34,16 @@ pub header-rules : (image : List ℕ) → headerFits image ≡ inOrder (headerRu
 unfolding headerFits
 header-rules image = refl
 
--- the marks, then the seals
-pub header-is : (image : List ℕ) → headerFits image ≡ (inOrder (markRules image) then inOrder (sealRules image))
+-- the marks, then the seals; and then the last two
+pub fields-are : (image : List ℕ) → inOrder (markRules image ++ sealRules image) ≡ (inOrder (markRules image) then inOrder (sealRules image))
+fields-are image = in-order-append (markRules image) (sealRules image)
+
+pub header-is : (image : List ℕ) → headerFits image ≡ (inOrder (markRules image ++ sealRules image) then inOrder (lastRules image))
 unfolding headerFits
-header-is image = in-order-append (markRules image) (sealRules image)
+header-is image = in-order-append (markRules image ++ sealRules image) (lastRules image)
+
+pub fields-long : (image : List ℕ) → inOrder (markRules image ++ sealRules image) ≡ Accepted → 564 ≤ length image
+fields-long image e = marks-long image (then-left _ _ (sym (fields-are image) ∙ e))
 
 -- the second checksum goes on from the first
 pub sum-goes-on : (image s : List ℕ) (partial sum : ℕ) → partial ≡ checksum (part image 8 471) → sum ≡ checksumFrom partial s → s ≡ part image 479 45
@@ -46,10 +52,34 @@ unfolding checksum
 sum-goes-on image s partial sum e h g =
     h ∙ ap₂ checksumFrom e g ∙ sym (ap (checksumFrom 0) (part-append image 8 471 45) ∙ checksum-append 0 (part image 8 471) (part image 479 45))
 
+-- an image that ends before byte 192 has of the end-of-file number what it holds of it, and 0 where it ends before byte 184
+pub end-cut : (image : List ℕ) → length image < 192 → field image 184 (length image - 184) ≡ statedEnd image
+unfolding statedEnd
+end-cut image h = field-cut image 184 8 (omega arith)
+
+pub end-missing : (image : List ℕ) → length image < 184 → 0 ≡ statedEnd image
+end-missing image h =
+    let none : length image - 184 ≡ 0 = omega arith in
+    sym (field-none image 184) ∙ ap (field image 184) (sym none) ∙ end-cut image (omega arith)
+
+-- the file's end: the smaller of the header's number and the image's length
+pub end-is-stated : (image : List ℕ) → statedEnd image ≤ length image → statedEnd image ≡ fileEnd image
+unfolding fileEnd
+end-is-stated image h = omega arith
+
+pub end-is-length : (image : List ℕ) → length image < statedEnd image → length image ≡ fileEnd image
+unfolding fileEnd
+end-is-length image h = omega arith
+
 -- the file ends inside the image
 pub end-inside : (image : List ℕ) → fileEnd image ≤ length image
 unfolding fileEnd
-end-inside image = le-refl (length image)
+end-inside image = omega arith
+
+-- at or before the file's end is at or before both
+pub end-both : (image : List ℕ) (n : ℕ) → (n ≤ fileEnd image) ↔ ((n ≤ statedEnd image) × (n ≤ length image))
+unfolding fileEnd
+end-both image n = ((λ h. (omega arith, omega arith)), (λ h. let a = h .0 in let b = h .1 in omega arith))
 
 four : (a b c d : Bool) → (a && b && c && d) ≡ true → (a ≡ true) × (b ≡ true) × (c ≡ true) × (d ≡ true)
 four a b c d e =
@@ -59,8 +89,8 @@ four a b c d e =
     (z .0, z .1, y .1, x .1)
 
 sound-of : (image : List ℕ) → AllHold (headerRules image) → HeaderSound image
-unfolding markRules sealRules lengthFits magicFits clientFits versionFits headerSumFits sentinelFits encodingFits
-sound-of image (both l (both m (both c (both v (both p (both f (both s (both e none)))))))) =
+unfolding markRules sealRules lastRules lengthFits magicFits clientFits versionFits headerSumFits sentinelFits encodingFits endFits
+sound-of image (both l (both m (both c (both v (both p (both f (both s (both e (both n none))))))))) =
     let bounds = and-both (leb 564 (length image)) (leb (length image) 1073741824) l in
     let marks = four (eqb (byte image 0) 0x21) (eqb (byte image 1) 0x42) (eqb (byte image 2) 0x44) (eqb (byte image 3) 0x4E) m in
     let client = and-both (eqb (byte image 8) 0x53) (eqb (byte image 9) 0x4D) c in
@@ -74,10 +104,11 @@ sound-of image (both l (both m (both c (both v (both p (both f (both s (both e n
       full = eqb-true _ _ f;
       sentinel = eqb-true _ _ s;
       encoding = leb-true _ _ e;
+      end = leb-true _ _ n;
     }
 
 holds-of : (image : List ℕ) → HeaderSound image → AllHold (headerRules image)
-unfolding markRules sealRules lengthFits magicFits clientFits versionFits headerSumFits sentinelFits encodingFits
+unfolding markRules sealRules lastRules lengthFits magicFits clientFits versionFits headerSumFits sentinelFits encodingFits endFits
 holds-of image h =
     both (both-and _ _ (le-leb _ _ (h .length-low)) (le-leb _ _ (h .length-high)))
     (both (both-and _ _ (both-and _ _ (both-and _ _ (eq-eqb _ _ (h .magic .0)) (eq-eqb _ _ (h .magic .1))) (eq-eqb _ _ (h .magic .2))) (eq-eqb _ _ (h .magic .3)))
@@ -86,7 +117,8 @@ holds-of image h =
     (both (eq-eqb _ _ (h .partial))
     (both (eq-eqb _ _ (h .full))
     (both (eq-eqb _ _ (h .sentinel))
-    (both (le-leb _ _ (h .encoding)) none)))))))
+    (both (le-leb _ _ (h .encoding))
+    (both (le-leb _ _ (h .end)) none))))))))
 
 -- the header is accepted exactly when each of its rules holds
 pub header-exactly : (image : List ℕ) → (headerFits image ≡ Accepted) ↔ HeaderSound image
@@ -105,36 +137,48 @@ header-first-fault image r = refused-exactly (headerRules image) r
 pub header-length : (image : List ℕ) → headerFits image ≡ Accepted → 564 ≤ length image
 header-length image e = header-exactly image .0 e .length-low
 
--- images that agree in length and in their first 564 bytes have the same header
-module _ (one other : List ℕ) (same : part one 0 564 ≡ part other 0 564) where
-  part-agrees : (place size : ℕ) → place + size ≤ 564 → part one place size ≡ part other place size
-  part-agrees place size h =
-      ap (λ (k : ℕ). part one k size) (sym (zero-add place)) ∙ sym (part-part one 0 564 place size h)
-      ∙ ap (λ (s : List ℕ). part s place size) same
-      ∙ part-part other 0 564 place size h ∙ ap (λ (k : ℕ). part other k size) (zero-add place)
+-- bytes that agree up to a place have the same parts before it
+pub part-agrees : (one other : List ℕ) (end : ℕ) → part one 0 end ≡ part other 0 end → (place size : ℕ) → place + size ≤ end → part one place size ≡ part other place size
+part-agrees one other end same place size h =
+    ap (λ (k : ℕ). part one k size) (sym (zero-add place)) ∙ sym (part-part one 0 end place size h)
+    ∙ ap (λ (s : List ℕ). part s place size) same
+    ∙ part-part other 0 end place size h ∙ ap (λ (k : ℕ). part other k size) (zero-add place)
 
-  byte-agrees : (place : ℕ) → place < 564 → byte one place ≡ byte other place
-  byte-agrees place h =
-      ap (byte one) (sym (zero-add place)) ∙ sym (byte-part one 0 564 place h)
-      ∙ ap (λ (s : List ℕ). byte s place) same
-      ∙ byte-part other 0 564 place h ∙ ap (byte other) (zero-add place)
+-- images that agree in their first 564 bytes have the same fields there
+byte-agrees : (one other : List ℕ) → part one 0 564 ≡ part other 0 564 → (place : ℕ) → place < 564 → byte one place ≡ byte other place
+byte-agrees one other same place h =
+    ap (byte one) (sym (zero-add place)) ∙ sym (byte-part one 0 564 place h)
+    ∙ ap (λ (s : List ℕ). byte s place) same
+    ∙ byte-part other 0 564 place h ∙ ap (byte other) (zero-add place)
 
 pub field-agrees : (one other : List ℕ) (place width : ℕ) → part one 0 564 ≡ part other 0 564 → place + width ≤ 564
     → field one place width ≡ field other place width
 unfolding field
-field-agrees one other place width same h = ap littleEndian (part-agrees one other same place width h)
+field-agrees one other place width same h = ap littleEndian (part-agrees one other 564 same place width h)
 
-pub end-agrees : (one other : List ℕ) → length one ≡ length other → part one 0 564 ≡ part other 0 564 → fileEnd one ≡ fileEnd other
-unfolding fileEnd
-end-agrees one other e same = e
+-- and, where their lengths are in bounds alike and reach the header's number alike, it is accepted or refused alike
+pub stated-agrees : (one other : List ℕ) → part one 0 564 ≡ part other 0 564 → statedEnd one ≡ statedEnd other
+unfolding statedEnd
+stated-agrees one other same = field-agrees one other 184 8 same (omega arith)
 
-pub header-agrees : (one other : List ℕ) → length one ≡ length other → part one 0 564 ≡ part other 0 564 → headerFits one ≡ headerFits other
-unfolding headerFits markRules sealRules lengthFits magicFits clientFits versionFits headerSumFits sentinelFits methodOf encodingFits
-header-agrees one other e same =
+pub method-agrees : (one other : List ℕ) → part one 0 564 ≡ part other 0 564 → methodOf one ≡ methodOf other
+unfolding methodOf
+method-agrees one other same = byte-agrees one other same 513 (omega arith)
+
+pub says-agrees : (one other : List ℕ) → part one 0 564 ≡ part other 0 564 → says one ≡ says other
+unfolding says referenceAt
+says-agrees one other same =
+    let f : (place : ℕ) → place + 8 ≤ 564 → field one place 8 ≡ field other place 8 = λ place h. field-agrees one other place 8 same h in
+    rw (method-agrees one other same, f 216 (omega arith), f 224 (omega arith), f 232 (omega arith), f 240 (omega arith), stated-agrees one other same)
+
+pub rules-agree : (one other : List ℕ) → part one 0 564 ≡ part other 0 564 → lengthFits one ≡ lengthFits other → endFits one ≡ endFits other → headerFits one ≡ headerFits other
+unfolding headerFits markRules sealRules lastRules magicFits clientFits versionFits headerSumFits sentinelFits methodOf encodingFits
+rules-agree one other same bounds ends =
     let b = byte-agrees one other same in
     let f : (place width : ℕ) → place + width ≤ 564 → field one place width ≡ field other place width = λ place width h. field-agrees one other place width same h in
     rw (
-      e,
+      bounds,
+      ends,
       b 0 (omega arith),
       b 1 (omega arith),
       b 2 (omega arith),
@@ -146,6 +190,15 @@ header-agrees one other e same =
       f 10 2 (omega arith),
       f 4 4 (omega arith),
       f 524 4 (omega arith),
-      part-agrees one other same 8 471 (omega arith),
-      part-agrees one other same 8 516 (omega arith),
+      part-agrees one other 564 same 8 471 (omega arith),
+      part-agrees one other 564 same 8 516 (omega arith),
     )
+
+-- images of one length that agree in their first 564 bytes end alike, and have the same header
+pub end-agrees : (one other : List ℕ) → length one ≡ length other → part one 0 564 ≡ part other 0 564 → fileEnd one ≡ fileEnd other
+unfolding fileEnd
+end-agrees one other e same = rw (stated-agrees one other same, e)
+
+pub header-agrees : (one other : List ℕ) → length one ≡ length other → part one 0 564 ≡ part other 0 564 → headerFits one ≡ headerFits other
+unfolding lengthFits endFits
+header-agrees one other e same = rules-agree one other same (rw e) (rw (stated-agrees one other same, e))

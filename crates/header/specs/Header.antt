@@ -1,5 +1,5 @@
--- Document 01, "Header" (003, 2.2.2.5 and 2.2.2.6). Assumes nothing: these are definitions.
-use Prim.Native.Nat.{ℕ, _+_}
+-- Document 01, "Header" (003, 2.2.2.5 and 2.2.2.6), and document 02, 6/13: where the file ends. Assumes nothing: these are definitions.
+use Prim.Native.Nat.{ℕ, _+_, min}
 use mathlib.Core.Bool.{Bool, _&&_}
 use mathlib.Core.List.{List, [], _∷_, _++_}
 use lib.Dec.{eqb, leb}
@@ -45,7 +45,15 @@ methodOf image = byte image 513
 unfoldable pub encodingFits : List ℕ → Bool
 encodingFits image = leb (methodOf image) 2
 
--- the header's tests, in their order: its marks, and then its seals
+-- 02, 6/13: "The end-of-file number in the header (eight bytes at 184)"
+unfoldable pub statedEnd : List ℕ → ℕ
+statedEnd image = field image 184 8
+
+-- "A header number above the image length is refused with 1 and place 184, after the encoding test."
+unfoldable pub endFits : List ℕ → Bool
+endFits image = leb (statedEnd image) (length image)
+
+-- the header's tests, in their order: its marks, its seals, and last the encoding method and the end of the file
 unfoldable pub markRules : List ℕ → List Rule
 markRules image =
     rule (lengthFits image) (ImageLength at 0)
@@ -59,11 +67,16 @@ sealRules image =
     rule (headerSumFits image 4 471) (HeaderChecksum at 4)
     ∷ rule (headerSumFits image 524 516) (HeaderChecksum at 524)
     ∷ rule (sentinelFits image) (Encoding at 512)
-    ∷ rule (encodingFits image) (Encoding at 513)
+    ∷ []
+
+unfoldable pub lastRules : List ℕ → List Rule
+lastRules image =
+    rule (encodingFits image) (Encoding at 513)
+    ∷ rule (endFits image) (ImageLength at 184)
     ∷ []
 
 abbrev pub headerRules : List ℕ → List Rule
-headerRules image = markRules image ++ sealRules image
+headerRules image = (markRules image ++ sealRules image) ++ lastRules image
 
 unfoldable pub headerFits : List ℕ → Verdict
 headerFits image = inOrder (headerRules image)
@@ -72,19 +85,20 @@ headerFits image = inOrder (headerRules image)
 unfoldable pub referenceAt : List ℕ → ℕ → Reference
 referenceAt image place = record { number = field image place 8; offset = field image (place + 8) 8 }
 
--- the encoding method, and the root references: "NBT page number at 216, its offset at 224; BBT page number at 232, its offset at 240"
+-- the encoding method; the root references: "NBT page number at 216, its offset at 224; BBT page number at 232, its offset at 240"; and the end-of-file number
 unfoldable pub says : List ℕ → Header
 says image =
     record {
       method = methodOf image;
       nodes = referenceAt image 216;
       blocks = referenceAt image 232;
+      end = statedEnd image;
     }
 
 -- the outcome of the header call
 unfoldable pub headerOf : List ℕ → HeaderAnswer
 headerOf image = after Refused (headerFits image) (Says (says image))
 
--- where pages and blocks must end at the latest
+-- where pages and blocks must end at the latest: "at or before both it and the image's end"
 unfoldable pub fileEnd : List ℕ → ℕ
-fileEnd image = length image
+fileEnd image = min (statedEnd image) (length image)

@@ -1,2 +1,3 @@
 pub mod Header
 pub mod Sound
+pub mod End

@@ -5,7 +5,7 @@ use mathlib.Core.List.{List}
 use lib.ListN.{length}
 use Rattle.le.specs.Bytes.{part, field, byte}
 use Rattle.crc.specs.Checksum.{checksum}
-use Rattle.header.specs.Header.{methodOf}
+use Rattle.header.specs.Header.{methodOf, statedEnd}
 
 pub record HeaderSound (image : List ℕ) : Type 0 where
   pub length-low : 564 ≤ length image
@@ -17,3 +17,4 @@ pub record HeaderSound (image : List ℕ) : Type 0 where
   pub full : field image 524 4 ≡ checksum (part image 8 516)
   pub sentinel : byte image 512 ≡ 0x80
   pub encoding : methodOf image ≤ 2
+  pub end : statedEnd image ≤ length image

@@ -3,13 +3,14 @@ use refusal::Fault;
 use refusal::Refusal;
 use refusal::Verdict;
 ghost use mathlib.Core.Path.{_≡_};
-ghost use Prim.Native.Nat.{_+_, _≤_};
+ghost use mathlib.Core.List.{_++_};
+ghost use Prim.Native.Nat.{_+_, _≤_, _<_};
 ghost use lib.Dec.{eqb};
 ghost use lib.ListN.{length};
 ghost use Rattle.le.specs.Bytes.{part, field};
 ghost use Rattle.crc.specs.Checksum.{checksum};
 ghost use Rattle.refusal.specs.Order.{inOrder};
-ghost use Rattle.header.specs.Header.{lengthFits, magicFits, clientFits, versionFits, sentinelFits, methodOf, encodingFits, markRules, sealRules, headerFits, referenceAt, headerOf, fileEnd};
+ghost use Rattle.header.specs.Header.{lengthFits, magicFits, clientFits, versionFits, sentinelFits, methodOf, encodingFits, statedEnd, endFits, markRules, sealRules, lastRules, headerFits, referenceAt, headerOf, fileEnd};
 
 // A page as the header refers to it.
 pub struct Reference {
@@ -21,6 +22,7 @@ pub struct Header {
     pub method: u8,
     pub nodes: Reference,
     pub blocks: Reference,
+    pub end: u64,
 }
 
 pub enum HeaderAnswer {
@@ -101,6 +103,33 @@ fn encoding_fits(image: &[u8]) -> bool
     method_of(image) <= 2
 }
 
+// What an image that ends before byte 192 holds of the end-of-file number.
+fn cut_end(image: &[u8]) -> u64
+    requires { ⌜ length (now image) < 192 ⌝ }
+    ensures { λ r. ⌜ r ≡ statedEnd (now (image .entry)) ⌝ }
+{
+    if image.len() < 184 {
+        return 0;
+    }
+    le::field_of(image, 184, image.len() - 184)
+}
+
+// The end-of-file number.
+pub fn stated_end(image: &[u8]) -> u64
+    ensures { λ r. ⌜ r ≡ statedEnd (now (image .entry)) ⌝ }
+{
+    if image.len() < 192 {
+        return cut_end(image);
+    }
+    le::field8(image, 184)
+}
+
+fn end_fits(image: &[u8]) -> bool
+    ensures { λ r. ⌜ r ≡ endFits (now (image .entry)) ⌝ }
+{
+    stated_end(image) <= image.len() as u64
+}
+
 // The image's length, and the marks of the format and its version.
 fn check_marks(image: &[u8]) -> Verdict
     ensures { λ r. ⌜ r ≡ inOrder (markRules (now (image .entry))) ⌝ }
@@ -120,7 +149,7 @@ fn check_marks(image: &[u8]) -> Verdict
     Verdict::Accepted
 }
 
-// The two checksums, the sentinel and the encoding method.
+// The two checksums and the sentinel.
 fn check_seals(image: &[u8]) -> Verdict
     requires { ⌜ 564 ≤ length (now image) ⌝ }
     ensures { λ r. ⌜ r ≡ inOrder (sealRules (now (image .entry))) ⌝ }
@@ -135,20 +164,44 @@ fn check_seals(image: &[u8]) -> Verdict
     if !sentinel_fits(image) {
         return refusal::refused_at(Fault::Encoding, 512);
     }
-    if !encoding_fits(image) {
+    Verdict::Accepted
+}
+
+// The encoding method, and where the file ends.
+fn check_last(image: &[u8]) -> Verdict
+    requires { ⌜ 564 ≤ length (now image) ⌝ }
+    ensures { λ r. ⌜ r ≡ inOrder (lastRules (now (image .entry))) ⌝ }
+{
+    let known = encoding_fits(image);
+    let reached = end_fits(image);
+    if !known {
         return refusal::refused_at(Fault::Encoding, 513);
+    }
+    if !reached {
+        return refusal::refused_at(Fault::ImageLength, 184);
     }
     Verdict::Accepted
 }
 
-pub fn check_header(image: &[u8]) -> Verdict
-    ensures { λ r. ⌜ r ≡ headerFits (now (image .entry)) ⌝ }
+// The marks and the seals.
+fn check_fields(image: &[u8]) -> Verdict
+    ensures { λ r. ⌜ r ≡ inOrder (markRules (now (image .entry)) ++ sealRules (now (image .entry))) ⌝ }
 {
     let verdict = check_marks(image);
     let Verdict::Accepted = verdict else {
         return verdict;
     };
     check_seals(image)
+}
+
+pub fn check_header(image: &[u8]) -> Verdict
+    ensures { λ r. ⌜ r ≡ headerFits (now (image .entry)) ⌝ }
+{
+    let verdict = check_fields(image);
+    let Verdict::Accepted = verdict else {
+        return verdict;
+    };
+    check_last(image)
 }
 
 fn reference_at(image: &[u8], place: usize) -> Reference
@@ -170,15 +223,23 @@ pub fn header_of(image: &[u8]) -> HeaderAnswer
     let nodes = reference_at(image, 216);
     let blocks = reference_at(image, 232);
     let method = method_of(image);
+    let end = stated_end(image);
     HeaderAnswer::Says(Header {
         method,
         nodes,
         blocks,
+        end,
     })
 }
 
+// Where pages and blocks must end at the latest.
 pub fn file_end(image: &[u8]) -> u64
     ensures { λ r. ⌜ r ≡ fileEnd (now (image .entry)) ⌝ }
 {
-    image.len() as u64
+    let stated = stated_end(image);
+    let length = image.len() as u64;
+    if length < stated {
+        return length;
+    }
+    stated
 }

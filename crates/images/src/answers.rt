@@ -20,6 +20,7 @@ fn say_header(answer: HeaderAnswer) {
             said::say_hex(b" at ", nodes.offset);
             said::say_hex(b", blocks ", blocks.number);
             said::say_hex(b" at ", blocks.offset);
+            said::say_decimal(b", end ", h.end);
         }
     }
 }

@@ -113,6 +113,20 @@ fn list_images() {
     image_lines(b"60-list-level-3.img");
 }
 
+// Request 6/13: the file ends where the header says, and pages and blocks behind that do not count.
+fn end_images() {
+    image_lines(b"61-end-zero.img");
+    image_lines(b"62-end-too-high.img");
+    image_lines(b"63-end-hanging-on.img");
+    image_lines(b"64-end-root-behind.img");
+    image_lines(b"65-end-page-behind.img");
+    image_lines(b"66-end-page-over.img");
+    image_lines(b"67-end-page-at.img");
+    image_lines(b"68-end-block-behind.img");
+    image_lines(b"69-end-block-over.img");
+    image_lines(b"70-end-block-at.img");
+}
+
 fn main() {
     valid_images();
     header_images();
@@ -121,4 +135,5 @@ fn main() {
     bit_zero_images();
     key_images();
     list_images();
+    end_images();
 }

@@ -100,6 +100,7 @@ header-answer r (answered v) =
       method = getD v 0 0;
       nodes = record { number = getD v 1 0; offset = getD v 2 0 };
       blocks = record { number = getD v 3 0; offset = getD v 4 0 };
+      end = getD v 5 0;
     })
 header-answer r (absent v) = header.Refused r
 header-answer r (refused n place more) = header.Refused r

@@ -44,6 +44,7 @@ headerAnswer (header.Says h) =
       «nodes_offset» = h .nodes .offset;
       «blocks_number» = h .blocks .number;
       «blocks_offset» = h .blocks .offset;
+      end = h .end;
     }
 headerAnswer (header.Refused r) =
     record {
@@ -55,6 +56,7 @@ headerAnswer (header.Refused r) =
       «nodes_offset» = 0;
       «blocks_number» = 0;
       «blocks_offset» = 0;
+      end = 0;
     }
 
 -- no node: absent after so many pages, or refused

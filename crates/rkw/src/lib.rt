@@ -57,6 +57,7 @@ pub struct RkwHeader {
     pub nodes_offset: u64,
     pub blocks_number: u64,
     pub blocks_offset: u64,
+    pub end: u64,
 }
 
 #[repr(C)]
@@ -228,6 +229,7 @@ fn header_answer(answer: HeaderAnswer) -> RkwHeader
             nodes_offset: h.nodes.offset,
             blocks_number: h.blocks.number,
             blocks_offset: h.blocks.offset,
+            end: h.end,
         },
         HeaderAnswer::Refused(r) => RkwHeader {
             refusal: number_in(r),
@@ -238,6 +240,7 @@ fn header_answer(answer: HeaderAnswer) -> RkwHeader
             nodes_offset: 0,
             blocks_number: 0,
             blocks_offset: 0,
+            end: 0,
         },
     }
 }

@@ -16,7 +16,7 @@ use Rattle.refusal.proofs.OrderLaws.{append-fault, Each, fault-among}
 use Rattle.keys.specs.declared.Sought.{Sought}
 use Rattle.keys.specs.Search.{joined}
 use Rattle.search.proofs.Faulted.{FaultOf, check-fault, search-fault, joined-fault}
-use Rattle.header.specs.Header.{markRules, sealRules, headerRules}
+use Rattle.header.specs.Header.{markRules, sealRules, lastRules, headerRules}
 use Rattle.page.specs.declared.Layout.{Layout}
 use Rattle.page.specs.Page.{pageFits}
 use Rattle.page.proofs.Exactly.{page-first-fault}
@@ -42,7 +42,11 @@ marks-quiet image = (refl, (refl, (refl, (refl, tt))))
 
 seals-quiet : (image : List ℕ) → Quiet (sealRules image)
 unfolding sealRules
-seals-quiet image = (refl, (refl, (refl, (refl, tt))))
+seals-quiet image = (refl, (refl, (refl, tt)))
+
+last-quiet : (image : List ℕ) → Quiet (lastRules image)
+unfolding lastRules
+last-quiet image = (refl, (refl, tt))
 
 module _ (P : Refusal → Type 0) where
   pub quiet-tell : (rules : List Rule) → Quiet rules → KeysTell P rules
@@ -59,7 +63,10 @@ module _ (P : Refusal → Type 0) where
   joined-tell list xs each r f k = joined-fault list xs r (P r) (λ x m g. each x r g k) f
 
   pub header-tell : (image : List ℕ) → KeysTell P (headerRules image)
-  header-tell image = append-tell (markRules image) (sealRules image) (quiet-tell (markRules image) (marks-quiet image)) (quiet-tell (sealRules image) (seals-quiet image))
+  header-tell image =
+      append-tell (markRules image ++ sealRules image) (lastRules image)
+      (append-tell (markRules image) (sealRules image) (quiet-tell (markRules image) (marks-quiet image)) (quiet-tell (sealRules image) (seals-quiet image)))
+      (quiet-tell (lastRules image) (last-quiet image))
 
 module _ (L : Layout) (image : List ℕ) where
   -- a page at fault, by its own first fault

@@ -41,6 +41,17 @@ fn header_checksums() {
     header_checksum(&header[..size], 516, 524);
 }
 
+// The same with its end-of-file number set to where the dump ends, and sealed anew.
+fn ended_header() {
+    let mut header = [0u8; 564];
+    let file = listed::load_hex(b"3.2_header_ended.hex", &mut header);
+    if !file.whole {
+        return;
+    }
+    let size = file.size;
+    pages::header_line(b"3.2 ended", &header[..size]);
+}
+
 fn say_call(section: &[u8], call: &[u8], method: u8, block: u64, bytes: &[u8]) {
     said::say(section);
     said::say_decimal(call, method as u64);
@@ -131,6 +142,7 @@ fn coding_vectors() {
 
 fn main() {
     header_checksums();
+    ended_header();
     pages::worked_pages();
     coding_vectors();
     tables::table_lines();

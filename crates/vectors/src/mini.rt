@@ -178,8 +178,20 @@ fn image_lines(name: &[u8]) {
     tree_lines(&buffer[..n]);
 }
 
-// The second has zeros behind the first, to one byte more than the programs work on.
+fn whole_file_line(name: &[u8]) {
+    let mut buffer = io::large_buffer();
+    let file = said::load(name, &mut buffer);
+    if !file.whole {
+        return;
+    }
+    let n = file.size;
+    pages::header_line(b"mini as cut", &buffer[..n]);
+}
+
+// The first says where the whole file ended; the second, with its header sealed anew, that it ends where
+// it was cut. The third has zeros behind the first, to one byte more than the programs work on.
 pub fn real_pages() {
-    image_lines(b"real_mini_64bit.img");
+    whole_file_line(b"real_mini_64bit.img");
+    image_lines(b"real_mini_ended.img");
     image_lines(b"real_mini_65537.img");
 }

@@ -14,6 +14,7 @@ fn say_header(answer: HeaderAnswer) {
             said::say_hex(b" at ", nodes.offset);
             said::say_hex(b", blocks ", blocks.number);
             said::say_hex(b" at ", blocks.offset);
+            said::say_decimal(b", end ", header.end);
             said::say(b"\n");
         }
         HeaderAnswer::Refused(wrong) => answers::say_refusal(wrong),

@@ -77,6 +77,7 @@ pub fn cases() -> Vec<Case> {
         headers(),
         tree_checks(),
         node_lookups(),
+        bytes_behind(),
         node_lists(),
         block_lookups(),
         block_tests(),
@@ -201,6 +202,34 @@ fn node_lookups() -> Vec<Case> {
         ));
     }
     cases
+}
+
+/// A check and a lookup in an image with a mebibyte of old bytes behind its end.
+fn bytes_behind() -> Vec<Case> {
+    let (built, _) = image(Plan {
+        node_level: 2,
+        bare_nodes: 6_000,
+        ..Plan::default()
+    });
+    let key = u64::from(built.nodes[built.nodes.len() / 2].node);
+    let image: Arc<[u8]> = [&built.image[..], &bytes(1 << 20)].concat().into();
+    let [checked, also_checked] = [Arc::clone(&image), Arc::clone(&image)];
+    let [left, right] = [Arc::clone(&image), image];
+    let behind = "1 MiB behind the end";
+    vec![
+        Case::new(
+            "check_nodes",
+            format!("6000 nodes, level 2, {behind}"),
+            move || u64::from(proved::check_nodes(&checked).refusal == 0),
+            move || u64::from(model::check_nodes(&also_checked).is_ok()),
+        ),
+        Case::new(
+            "find_node",
+            format!("level 2, 6000 nodes, {behind}"),
+            move || proved::find_node(&left, key).pages,
+            move || model::find_node(&right, key).map_or(0, |found| pages(&found)),
+        ),
+    ]
 }
 
 /// Full lists in trees of three depths: any nodes, and nodes next to one another.

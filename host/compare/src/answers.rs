@@ -24,12 +24,13 @@ pub fn plain(answer: Answer<()>) -> [u64; 3] {
     fields(answer, |(), _| {})
 }
 
-pub fn header(answer: Answer<Header>) -> [u64; 8] {
+pub fn header(answer: Answer<Header>) -> [u64; 9] {
     fields(answer, |header, rest| {
         let Header {
             method,
             nodes,
             blocks,
+            end,
         } = header;
         let method = u64::from(method);
         rest.copy_from_slice(&[
@@ -38,6 +39,7 @@ pub fn header(answer: Answer<Header>) -> [u64; 8] {
             nodes.offset,
             blocks.number,
             blocks.offset,
+            end,
         ]);
     })
 }

@@ -106,6 +106,11 @@ impl Call {
         matches!(self, Call::FindBlock | Call::TestBlock | Call::ReadBlock)
     }
 
+    /// Whether the call reads an image.
+    pub fn reads_image(self) -> bool {
+        ON_IMAGE.contains(&self)
+    }
+
     /// Whether the call reads a table.
     pub fn reads_table(self) -> bool {
         (Call::Table..=Call::ReadRow).contains(&self)
@@ -279,6 +284,40 @@ pub fn alike_either_way(ask: &Ask, lent: &[u8], buffers: &mut Buffers) -> bool {
         _ => true,
     };
     alike && buffers.same()
+}
+
+/// Whether the proved library answers a call on an image and on another image alike, in every field and
+/// every byte and word of the buffers.
+pub fn alike_on_another(ask: &Ask, lent: Lent, other: &[u8], buffers: &mut Buffers) -> bool {
+    buffers.set_bytes(&[], ask.out_length, ask.number as u8);
+    buffers.set_words(ask.words, ask.number);
+    let [(out, places), (other_out, other_places)] = buffers.lend_all();
+    let other = Lent {
+        bytes: other,
+        ..lent
+    };
+    let alike = on_image(ask, lent, out, places) == on_image(ask, other, other_out, other_places);
+    alike && buffers.same()
+}
+
+/// What the proved library answers to a call on an image.
+fn on_image(ask: &Ask, lent: Lent, out: &mut [u8], places: &mut [u64]) -> Vec<u64> {
+    let (image, number) = (lent.bytes, ask.number);
+    match ask.call {
+        Call::CheckNodes => proved::check_nodes(image).fields().to_vec(),
+        Call::CheckBlocks => proved::check_blocks(image).fields().to_vec(),
+        Call::FindNode => proved::find_node(image, number).fields().to_vec(),
+        Call::FindNodes => proved::find_nodes(image, lent.nodes, places)
+            .fields()
+            .to_vec(),
+        Call::FindBlock => proved::find_block(image, number).fields().to_vec(),
+        Call::NextNode => proved::next_node(image, number).fields().to_vec(),
+        Call::NextBlock => proved::next_block(image, number).fields().to_vec(),
+        Call::TestBlock => proved::test_block(image, number).fields().to_vec(),
+        Call::ReadBlock => proved::read_block(image, number, out).fields().to_vec(),
+        Call::ReadNode => proved::read_node(image, number, out).fields().to_vec(),
+        _ => proved::header(image).fields().to_vec(),
+    }
 }
 
 fn read(ask: &Ask, lent: &[u8], own: &[u8], buffers: &mut Buffers) -> Answers {

@@ -70,6 +70,13 @@ impl Buffers {
         self.words.lend()
     }
 
+    /// The bytes and words of the proved library, and those of the model.
+    pub fn lend_all(&mut self) -> [(&mut [u8], &mut [u64]); 2] {
+        let (bytes, model_bytes) = self.bytes.lend();
+        let (words, model_words) = self.words.lend();
+        [(bytes, words), (model_bytes, model_words)]
+    }
+
     pub fn same(&self) -> bool {
         self.bytes.same() && self.words.same()
     }

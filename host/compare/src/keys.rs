@@ -1,7 +1,7 @@
 //! In which page and at which entry a call met keys at fault, and whether the page's keys break the
 //! other rule as well.
 
-use model::header::Reference;
+use model::header::{file, Reference};
 use model::page::{Page, Range, Sought, Tree};
 use model::Refusal;
 use std::fmt;
@@ -70,7 +70,7 @@ impl KeyFault {
         let header = model::header(image).ok()?;
         let trees = [(Tree::Nodes, header.nodes), (Tree::Blocks, header.blocks)];
         trees.into_iter().find_map(|(tree, root)| {
-            let (sought, page) = refused_page(image, tree, from_root(root), refusal)?;
+            let (sought, page) = refused_page(file(image), tree, from_root(root), refusal)?;
             let at = refusal.more as usize;
             Some(KeyFault {
                 tree,
@@ -141,17 +141,17 @@ fn from_root(reference: Reference) -> Sought {
 
 /// The page that is refused just so. One page may be reached twice, with different ranges.
 fn refused_page(
-    image: &[u8],
+    file: &[u8],
     tree: Tree,
     sought: Sought,
     refusal: Refusal,
 ) -> Option<(Sought, Page<'_>)> {
-    let page = Page::shaped(image, tree, sought).ok()?;
+    let page = Page::shaped(file, tree, sought).ok()?;
     if let Err(fault) = page.check_keys() {
         return (fault == refusal).then_some((sought, page));
     }
     let mut children = (0..page.count).filter_map(|at| page.child(at));
-    children.find_map(|child| refused_page(image, tree, child, refusal))
+    children.find_map(|child| refused_page(file, tree, child, refusal))
 }
 
 fn role(sought: &Sought, page: &Page) -> Role {

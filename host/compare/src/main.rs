@@ -31,6 +31,10 @@ fn main() -> ExitCode {
     println!("{} calls also with bit 0 the other way", run.either_way);
     println!("{} lists also node by node", run.one_by_one);
     println!("{} rows also cell by cell", run.cell_by_cell);
+    println!(
+        "{} calls also with other bytes behind the end",
+        run.other_behind
+    );
     let disagreements = run.disagreements.len();
     let seconds = start.elapsed().as_secs_f64();
     println!(

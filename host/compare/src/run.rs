@@ -1,9 +1,11 @@
 //! The seeded loop.
 
 use crate::ask::{
-    alike_cell_by_cell, alike_either_way, alike_one_by_one, ask, Answers, Ask, Call, Lent,
+    alike_cell_by_cell, alike_either_way, alike_on_another, alike_one_by_one, ask, Answers, Ask,
+    Call, Lent,
 };
 use crate::buffers::{Buffers, GUARD};
+use crate::end::other_behind;
 use crate::question::{question, Question};
 use crate::subject::{images_for_long_lists, subjects, widest_image, Subject};
 use crate::tally::Tally;
@@ -26,6 +28,8 @@ pub struct Run {
     pub one_by_one: u64,
     /// Of these, the rows whose cells were put to the proved library one by one too.
     pub cell_by_cell: u64,
+    /// Of these, those that were put to the proved library with other bytes behind the end too.
+    pub other_behind: u64,
     pub tally: Tally,
     pub disagreements: Vec<Disagreement>,
     buffers: Buffers,
@@ -48,6 +52,7 @@ impl Run {
             either_way: 0,
             one_by_one: 0,
             cell_by_cell: 0,
+            other_behind: 0,
             tally: Tally::default(),
             disagreements: Vec::new(),
             buffers: Buffers::default(),
@@ -95,7 +100,8 @@ impl Run {
             let answers = ask(&question.ask, lent, own, &mut self.buffers);
             self.calls += 1;
             let fault = fault(&answers, self.buffers.same(), lent == own)
-                .or_else(|| self.fault_beside(&question.ask, lent, &answers, &mut random));
+                .or_else(|| self.fault_beside(&question.ask, lent, &answers, &mut random))
+                .or_else(|| self.fault_behind(&question.ask, lent, &mut random));
             if let Some(fault) = fault {
                 self.report(seed, subject, &question, &answers, fault);
                 return;
@@ -110,6 +116,10 @@ impl Run {
         if question.call == Call::FindNodes {
             let area = self.buffers.area();
             self.tally.add_list(lent.nodes.len(), answers, area);
+        }
+        if question.call.reads_image() {
+            let area = self.buffers.area();
+            self.tally.add_end(question, lent, answers, area);
         }
         if question.call.reads_table() {
             let area = self.buffers.area();
@@ -145,6 +155,22 @@ impl Run {
             return (!alike).then_some("a place is not what the cell alone answers");
         }
         None
+    }
+
+    /// Now and then what hangs on behind the end is cut off or changed, or something is hung on.
+    fn fault_behind(
+        &mut self,
+        question: &Ask,
+        lent: Lent,
+        random: &mut Random,
+    ) -> Option<&'static str> {
+        if !question.call.reads_image() || !random.one_in(3) {
+            return None;
+        }
+        let other = other_behind(lent.bytes, random)?;
+        self.other_behind += 1;
+        let alike = alike_on_another(question, lent, &other, &mut self.buffers);
+        (!alike).then_some("what hangs on behind the end makes a difference")
     }
 
     fn report(

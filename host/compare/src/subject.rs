@@ -6,10 +6,10 @@ mod tables;
 use crate::ask::{Call, ON_BYTES, ON_HEAP, ON_IMAGE};
 use crate::tables::draw::Known;
 use model::build::heaps::{bare_heap, empty_items, property_context, HeapPlan, PlacedHeap};
-use model::build::seal::seal_header;
+use model::build::seal::{seal_header, set_end};
 use model::build::{build, build_small, build_small_loose, Built, Plan, MOST_SMALL};
 use model::damage::heap::{spoil_heap, ALL};
-use model::damage::{spoil, spoil_again, Damage, BLOCK, HEADER, KEYS, PAGE, WHOLE};
+use model::damage::{spoil, spoil_again, Damage, BLOCK, END, HEADER, KEYS, PAGE, WHOLE};
 use model::random::Random;
 
 pub struct Subject {
@@ -50,9 +50,10 @@ impl Subject {
 /// Some subjects that belong together, made from one seed.
 pub fn subjects(seed: u64) -> Vec<Subject> {
     let mut random = Random::new(seed);
-    match random.below(75) {
+    match random.below(78) {
         0..=31 => built_images(&mut random),
         32..=34 => wide_images(&mut random),
+        75..=77 => images_with_other_ends(&mut random),
         35..=38 => vec![random_image(&mut random)],
         39..=54 => heaps(&mut random),
         55..=56 => vec![random_heap(&mut random)],
@@ -90,6 +91,21 @@ fn wide_images(random: &mut Random) -> Vec<Subject> {
     damaged.collect()
 }
 
+/// Pages and blocks at the end of the file, over it and behind it, in images that are sound otherwise.
+fn images_with_other_ends(random: &mut Random) -> Vec<Subject> {
+    let built = build_small_loose(random.number());
+    let damaged = (0..12).map(|_| {
+        let damage = random.one_of([
+            Damage::PageBehind,
+            Damage::BlockBehind,
+            Damage::BlockBehind,
+            Damage::EndNearPage,
+        ]);
+        damaged_image(&built, (damage, true), random)
+    });
+    damaged.collect()
+}
+
 fn wide_image(random: &mut Random) -> Built {
     let plan = Plan {
         method: random.below(3) as u8,
@@ -105,12 +121,13 @@ fn wide_image(random: &mut Random) -> Built {
 }
 
 fn damage(random: &mut Random) -> (Damage, bool) {
-    let group = match random.below(16) {
+    let group = match random.below(19) {
         0 => WHOLE,
         1..=3 => HEADER,
         4..=8 => PAGE,
         9..=10 => KEYS,
-        _ => BLOCK,
+        11..=15 => BLOCK,
+        _ => END,
     };
     let damage = random.pick(group).copied().unwrap_or(Damage::AnyByte);
     (damage, !random.one_in(4))
@@ -157,6 +174,10 @@ fn random_image(random: &mut Random) -> Subject {
         if random.one_in(2) {
             random.fill(&mut bytes[216..248]);
             seal_header(&mut bytes);
+        }
+        if !random.one_in(4) {
+            let end = random.one_of([0, length / 2, length, length, length, length + 1]);
+            set_end(&mut bytes, end as u64);
         }
     }
     Subject::new(format!("random image, headed {headed}"), bytes, ON_IMAGE)

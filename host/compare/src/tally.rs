@@ -3,7 +3,7 @@
 use crate::ask::{Answers, Ask, Call, Lent};
 use crate::keys::KeyFault;
 use crate::lists::Met;
-use crate::{checksums, tables};
+use crate::{checksums, end, tables};
 use model::page::Tree;
 use model::Refusal;
 use std::collections::BTreeMap;
@@ -29,6 +29,8 @@ pub struct Tally {
     pub lists: BTreeMap<Met, u64>,
     pub checksums: BTreeMap<checksums::Met, u64>,
     /// What a place says counts once a place, all else once a call.
+    pub ends: BTreeMap<(Call, end::Met), u64>,
+    /// What a place says counts once a place, all else once a call.
     pub tables: BTreeMap<tables::Met, u64>,
 }
 
@@ -48,6 +50,14 @@ impl Tally {
     pub fn add_list(&mut self, length: usize, answers: &Answers, area: &[u64]) {
         for met in Met::in_call(length, &answers.model, area) {
             *self.lists.entry(met).or_default() += 1;
+        }
+    }
+
+    /// Adds what the answer to a call on an image says of the end of the file, and the area that a list
+    /// was answered in.
+    pub fn add_end(&mut self, ask: &Ask, lent: Lent, answers: &Answers, area: &[u64]) {
+        for met in end::Met::in_call(ask, lent, &answers.model, area) {
+            *self.ends.entry((ask.call, met)).or_default() += 1;
         }
     }
 
@@ -116,6 +126,12 @@ impl Tally {
         checksums::Met::all().filter(never).collect()
     }
 
+    /// What calls on images have to meet of the end of the file and never met.
+    pub fn ends_not_reached(&self) -> Vec<(Call, end::Met)> {
+        let never = |met: &(Call, end::Met)| !self.ends.contains_key(met);
+        end::Met::all().filter(never).collect()
+    }
+
     /// What calls on tables have to meet and never met.
     pub fn tables_not_reached(&self) -> Vec<tables::Met> {
         let never = |met: &tables::Met| !self.tables.contains_key(met);
@@ -150,6 +166,7 @@ impl fmt::Display for Tally {
         self.write_keys(f)?;
         write_counts(f, ("lists of nodes", "times"), &self.lists)?;
         write_counts(f, ("checksums", "calls"), &self.checksums)?;
+        self.write_ends(f)?;
         write_counts(f, ("tables", "times"), &self.tables)
     }
 }
@@ -166,6 +183,16 @@ impl Tally {
             let page = format!("{tree} tree, {role}");
             let fault = fault.to_string();
             writeln!(f, "{page:<17} {fault:<21} {count:>8}")?;
+        }
+        Ok(())
+    }
+
+    fn write_ends(&self, f: &mut fmt::Formatter) -> fmt::Result {
+        writeln!(f, "\n{:<39} {:>8}", "the end of the file", "times")?;
+        for ((call, met), count) in &self.ends {
+            let name = format!("{call:?}");
+            let met = met.to_string();
+            writeln!(f, "{name:<13} {met:<25} {count:>8}")?;
         }
         Ok(())
     }

@@ -1,7 +1,7 @@
 //! The longest image that is read, and one byte more. Nearly all of it is zeros that nobody touches.
 
 use compare::answers;
-use model::build::seal::{seal_header, seal_page};
+use model::build::seal::{seal_page, set_end};
 use model::build::{build, Built, Plan};
 use model::header::MOST_IMAGE;
 use rekwonuda_sys as proved;
@@ -19,7 +19,8 @@ fn small() -> Built {
     build(1, &plan)
 }
 
-/// A small image with zeros behind it, whose root page of the node tree stands at that offset.
+/// A small image with zeros behind it, whose root page of the node tree stands at that offset, and ends
+/// with the file.
 fn long(length: usize, offset: usize) -> Vec<u8> {
     let small = small();
     let page = small.pages.last().expect("a root page").offset;
@@ -28,11 +29,12 @@ fn long(length: usize, offset: usize) -> Vec<u8> {
     image[offset..offset + 512].copy_from_slice(&small.image[page..page + 512]);
     seal_page(&mut image, offset);
     put(&mut image, 224, offset as u64);
-    seal_header(&mut image);
+    set_end(&mut image, offset as u64 + 512);
     image
 }
 
-fn compare(image: &[u8], node: u64) -> u64 {
+/// The refusal of the lookup, and its place.
+fn compare(image: &[u8], node: u64) -> (u64, u64) {
     assert_eq!(
         proved::header(image).fields(),
         answers::header(model::header(image))
@@ -50,14 +52,22 @@ fn compare(image: &[u8], node: u64) -> u64 {
     let mut place = [0; 9];
     assert_eq!(proved::find_nodes(image, &[node], &mut place).refusal, 0);
     assert_eq!(place, found);
-    found[0]
+    (found[0], found[1])
 }
 
 #[test]
 fn longest_image() {
     let node = u64::from(small().nodes[0].node);
-    let image = long(MOST_IMAGE + 1, MOST_IMAGE - 512);
-    assert_eq!(compare(&image[..MOST_IMAGE], node), 0);
-    assert_eq!(compare(&image[..MOST_IMAGE - 1], node), 6);
-    assert_eq!(compare(&image, node), 1);
+    let page = MOST_IMAGE - 512;
+    let mut image = long(MOST_IMAGE + 1, page);
+    assert_eq!(compare(&image[..MOST_IMAGE], node), (0, 0));
+    assert_eq!(compare(&image[..MOST_IMAGE - 1], node), (1, 184));
+    assert_eq!(compare(&image, node), (1, 0));
+    set_end(&mut image, MOST_IMAGE as u64 - 1);
+    for length in [MOST_IMAGE - 1, MOST_IMAGE] {
+        assert_eq!(compare(&image[..length], node), (6, page as u64));
+    }
+    set_end(&mut image, MOST_IMAGE as u64 + 1);
+    assert_eq!(compare(&image[..MOST_IMAGE], node), (1, 184));
+    assert_eq!(compare(&image, node), (1, 0));
 }

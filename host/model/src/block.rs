@@ -1,9 +1,10 @@
-//! Blocks: lookup, test and reading (01, Blocks and their encoding; 003, 2.2.2.8).
+//! Blocks: lookup, test and reading (01, Blocks and their encoding; 02, 6/13; 003, 2.2.2.8). `file` is an
+//! image up to where the file ends, under a header that has been accepted.
 
 use crate::bytes::{u16_at, u32_at, u64_at};
 use crate::checksum::{checksum, signature};
 use crate::coding::{decode, NONE};
-use crate::header::{header, Header};
+use crate::header::{file, header, Header};
 use crate::page::{Tree, FIRST_OFFSET, STEP};
 use crate::refusal::{demand, Answer, Refusal};
 use crate::tree::{self, Lookup};
@@ -31,34 +32,34 @@ pub fn is_internal(block: u64) -> bool {
 
 pub fn find_block(image: &[u8], block: u64) -> Answer<Lookup<Block>> {
     let header = header(image)?;
-    find(image, &header, block)
+    find(file(image), &header, block)
 }
 
 /// The first block whose number, without bit 0, is at least `from` as given: one above the number
 /// found moves on.
 pub fn next_block(image: &[u8], from: u64) -> Answer<Lookup<Block>> {
     let header = header(image)?;
-    Ok(tree::next(image, &header, Tree::Blocks, from)?.map(listed))
+    Ok(tree::next(file(image), &header, Tree::Blocks, from)?.map(listed))
 }
 
 /// The size of a block that passes every test.
 pub fn test_block(image: &[u8], block: u64) -> Answer<u16> {
     let header = header(image)?;
-    Ok(Tested::new(image, &header, block)?.listed.size)
+    Ok(Tested::new(file(image), &header, block)?.listed.size)
 }
 
 /// The number of bytes put at the front of `out`.
 pub fn read_block(image: &[u8], block: u64, out: &mut [u8]) -> Answer<usize> {
     let header = header(image)?;
-    let tested = Tested::new(image, &header, block)?;
+    let tested = Tested::new(file(image), &header, block)?;
     let needed = tested.stored.len();
     let out = out.get_mut(..needed).ok_or(Refusal::short(needed))?;
     tested.decode_into(header.method, out)?;
     Ok(needed)
 }
 
-fn find(image: &[u8], header: &Header, block: u64) -> Answer<Lookup<Block>> {
-    Ok(tree::find(image, header, Tree::Blocks, block)?.map(listed))
+fn find(file: &[u8], header: &Header, block: u64) -> Answer<Lookup<Block>> {
+    Ok(tree::find(file, header, Tree::Blocks, block)?.map(listed))
 }
 
 fn listed(entry: &[u8]) -> Block {
@@ -77,12 +78,12 @@ pub(crate) struct Tested<'a> {
 }
 
 impl<'a> Tested<'a> {
-    pub fn new(image: &'a [u8], header: &Header, block: u64) -> Answer<Self> {
-        let listed = find(image, header, block)?
+    pub fn new(file: &'a [u8], header: &Header, block: u64) -> Answer<Self> {
+        let listed = find(file, header, block)?
             .found()
             .ok_or(Refusal::new(12, 0))?;
         let place = listed.offset;
-        let room = room_in(image, &listed).ok_or(Refusal::new(13, place))?;
+        let room = room_in(file, &listed).ok_or(Refusal::new(13, place))?;
         let (stored, rest) = room.split_at(usize::from(listed.size));
         let trailer = &rest[rest.len() - TRAILER as usize..];
         demand(is_trailer_of(trailer, &listed), 14, place)?;
@@ -100,13 +101,13 @@ impl<'a> Tested<'a> {
 }
 
 /// The bytes from the block's first to its trailer's last, where 13 does not apply.
-fn room_in<'a>(image: &'a [u8], listed: &Block) -> Option<&'a [u8]> {
+fn room_in<'a>(file: &'a [u8], listed: &Block) -> Option<&'a [u8]> {
     let Block { offset, size, .. } = *listed;
     let allowed =
         (1..=MOST_SIZE).contains(&size) && offset.is_multiple_of(STEP) && offset >= FIRST_OFFSET;
     let end = offset.checked_add(room(u32::from(size)))?;
-    if allowed && end <= image.len() as u64 {
-        Some(&image[offset as usize..end as usize])
+    if allowed && end <= file.len() as u64 {
+        Some(&file[offset as usize..end as usize])
     } else {
         None
     }

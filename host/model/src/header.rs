@@ -1,4 +1,4 @@
-//! The header (01, Header; 003, 2.2.2.5 and 2.2.2.6).
+//! The header (01, Header; 02, 6/13; 003, 2.2.2.5 and 2.2.2.6).
 
 use crate::bytes::{u16_at, u32_at, u64_at};
 use crate::checksum::{checksum, extend};
@@ -12,6 +12,9 @@ pub const CLIENT_MAGIC: [u8; 2] = [0x53, 0x4D];
 pub const VERSION: u16 = 23;
 pub const SENTINEL: u8 = 0x80;
 
+/// Where the end-of-file number stands.
+pub const END: usize = 184;
+
 /// A page as its parent or the header names it.
 #[derive(Clone, Copy, PartialEq, Eq, Debug)]
 pub struct Reference {
@@ -24,6 +27,8 @@ pub struct Header {
     pub method: u8,
     pub nodes: Reference,
     pub blocks: Reference,
+    /// The end-of-file number.
+    pub end: u64,
 }
 
 pub fn header(image: &[u8]) -> Answer<Header> {
@@ -37,11 +42,23 @@ pub fn header(image: &[u8]) -> Answer<Header> {
     demand(u32_at(image, 524) == full, 4, 524)?;
     demand(image[512] == SENTINEL, 5, 512)?;
     demand(image[513] <= CYCLIC, 5, 513)?;
+    let end = u64_at(image, END);
+    demand(end <= image.len() as u64, 1, END as u64)?;
     Ok(Header {
         method: image[513],
         nodes: reference_at(image, 216),
         blocks: reference_at(image, 232),
+        end,
     })
+}
+
+/// The image up to where the file ends: at the end-of-file number, or at the image's end where that
+/// comes first. Whether the header is accepted makes no difference; an image too short to have the
+/// number is all file.
+pub fn file(image: &[u8]) -> &[u8] {
+    let number = image.get(END..END + 8).map(|field| u64_at(field, 0));
+    let length = image.len() as u64;
+    &image[..number.map_or(length, |end| end.min(length)) as usize]
 }
 
 pub(crate) fn reference_at(bytes: &[u8], at: usize) -> Reference {

@@ -1,8 +1,9 @@
 //! A choice of small images, the same each time: some of each method and depth, damaged ones that
 //! together reach every refusal, those that turn on bit 0 of a block's number, those in which keys are
-//! out of order or out of range, and those for a list of nodes.
+//! out of order or out of range, those for a list of nodes, and those that turn on where the file ends.
 
 mod bit_0;
+mod end;
 mod keys;
 mod lists;
 
@@ -89,6 +90,7 @@ pub fn images() -> Vec<Image> {
     images.extend(bit_0::images());
     images.extend(keys::images());
     images.extend(lists::images());
+    images.extend(end::images());
     images
 }
 

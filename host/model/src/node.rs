@@ -1,8 +1,9 @@
-//! Nodes and their data (01, Blocks and their encoding: "Node data").
+//! Nodes and their data (01, Blocks and their encoding: "Node data"). `file` is an image up to where the
+//! file ends, under a header that has been accepted.
 
 use crate::block::{is_internal, Tested};
 use crate::bytes::{u16_at, u32_at, u64_at};
-use crate::header::{header, Header};
+use crate::header::{file, header, Header};
 use crate::page::Tree;
 use crate::refusal::{demand, Answer, Refusal};
 use crate::tree::{self, Lookup};
@@ -19,24 +20,25 @@ pub struct Node {
 }
 
 pub fn find_node(image: &[u8], node: u64) -> Answer<Lookup<Node>> {
-    look_up(image, &header(image)?, node)
+    let header = header(image)?;
+    look_up(file(image), &header, node)
 }
 
-/// The lookup under a header that has been accepted.
-pub(crate) fn look_up(image: &[u8], header: &Header, node: u64) -> Answer<Lookup<Node>> {
-    Ok(tree::find(image, header, Tree::Nodes, node)?.map(listed))
+pub(crate) fn look_up(file: &[u8], header: &Header, node: u64) -> Answer<Lookup<Node>> {
+    Ok(tree::find(file, header, Tree::Nodes, node)?.map(listed))
 }
 
 pub fn next_node(image: &[u8], from: u64) -> Answer<Lookup<Node>> {
     let header = header(image)?;
     let from = Tree::Nodes.key(from);
-    Ok(tree::next(image, &header, Tree::Nodes, from)?.map(listed))
+    Ok(tree::next(file(image), &header, Tree::Nodes, from)?.map(listed))
 }
 
 /// The number of bytes put at the front of `out`; None where the node is absent.
 pub fn read_node(image: &[u8], node: u64, out: &mut [u8]) -> Answer<Option<usize>> {
     let header = header(image)?;
-    let Some(entry) = tree::find(image, &header, Tree::Nodes, node)?.found() else {
+    let file = file(image);
+    let Some(entry) = tree::find(file, &header, Tree::Nodes, node)?.found() else {
         return Ok(None);
     };
     let data = listed(entry).data;
@@ -44,7 +46,7 @@ pub fn read_node(image: &[u8], node: u64, out: &mut [u8]) -> Answer<Option<usize
     if matches!(data, 0 | 1) {
         return Ok(Some(0));
     }
-    let blocks = data_blocks(image, &header, data)?;
+    let blocks = data_blocks(file, &header, data)?;
     let needed = blocks.iter().map(|block| block.stored.len()).sum();
     let mut rest = out.get_mut(..needed).ok_or(Refusal::short(needed))?;
     for block in blocks {
@@ -65,15 +67,15 @@ fn listed(entry: &[u8]) -> Node {
 }
 
 /// The blocks whose bytes, one behind the other, are the node's data; each has been tested.
-fn data_blocks<'a>(image: &'a [u8], header: &Header, data: u64) -> Answer<Vec<Tested<'a>>> {
-    let root = Tested::new(image, header, data)?;
+fn data_blocks<'a>(file: &'a [u8], header: &Header, data: u64) -> Answer<Vec<Tested<'a>>> {
+    let root = Tested::new(file, header, data)?;
     if !is_internal(data) {
         return Ok(vec![root]);
     }
     let place = root.listed.offset;
     let numbers = child_numbers(root.stored).ok_or(Refusal::new(16, place))?;
     let children = numbers
-        .map(|number| Tested::new(image, header, number))
+        .map(|number| Tested::new(file, header, number))
         .collect::<Answer<Vec<_>>>()?;
     let sum: usize = children.iter().map(|child| child.stored.len()).sum();
     demand(sum as u64 == u64::from(u32_at(root.stored, 4)), 16, place)?;

@@ -1,6 +1,6 @@
 //! A list of nodes in one call (02, 3/13).
 
-use crate::header::header;
+use crate::header::{file, header};
 use crate::node::{look_up, Node};
 use crate::refusal::{Answer, Refusal};
 use crate::tree::Lookup;
@@ -23,9 +23,9 @@ pub fn find_nodes(image: &[u8], nodes: &[u64], places: &mut [u64]) -> Answer<()>
     if nodes.is_empty() {
         return Ok(());
     }
-    let header = header(image);
+    let (header, file) = (header(image), file(image));
     for (&node, place) in nodes.iter().zip(places.chunks_exact_mut(WORDS)) {
-        let answer = header.and_then(|header| look_up(image, &header, node));
+        let answer = header.and_then(|header| look_up(file, &header, node));
         place.copy_from_slice(&in_words(answer));
     }
     Ok(())

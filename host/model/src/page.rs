@@ -1,4 +1,4 @@
-//! One page and its full check (01, Pages and trees; 02, 2/13; 003, 2.2.2.7).
+//! One page and its full check (01, Pages and trees; 02, 2/13 and 6/13; 003, 2.2.2.7).
 
 use crate::bytes::{u16_at, u32_at, u64_at};
 use crate::checksum::{checksum, signature};
@@ -86,18 +86,19 @@ pub struct Page<'a> {
 }
 
 impl<'a> Page<'a> {
-    /// The full check: refusals 6 to 10 in their order, then the keys.
-    pub fn check(image: &'a [u8], tree: Tree, sought: Sought) -> Answer<Self> {
-        let page = Self::shaped(image, tree, sought)?;
+    /// The full check: refusals 6 to 10 in their order, then the keys. `file` is the image up to where
+    /// the file ends.
+    pub fn check(file: &'a [u8], tree: Tree, sought: Sought) -> Answer<Self> {
+        let page = Self::shaped(file, tree, sought)?;
         page.check_keys()?;
         Ok(page)
     }
 
     /// A page whose keys are still to be tested.
-    pub fn shaped(image: &'a [u8], tree: Tree, sought: Sought) -> Answer<Self> {
+    pub fn shaped(file: &'a [u8], tree: Tree, sought: Sought) -> Answer<Self> {
         let place = sought.reference.offset;
-        demand(offset_allowed(image, place), 6, place)?;
-        let bytes = &image[place as usize..place as usize + PAGE];
+        demand(offset_allowed(file, place), 6, place)?;
+        let bytes = &file[place as usize..place as usize + PAGE];
         demand(
             bytes[496] == tree.kind() && bytes[497] == tree.kind(),
             7,
@@ -175,10 +176,10 @@ impl<'a> Page<'a> {
     }
 }
 
-fn offset_allowed(image: &[u8], offset: u64) -> bool {
+fn offset_allowed(file: &[u8], offset: u64) -> bool {
     let inside = offset
         .checked_add(PAGE as u64)
-        .is_some_and(|end| end <= image.len() as u64);
+        .is_some_and(|end| end <= file.len() as u64);
     offset.is_multiple_of(STEP) && offset >= FIRST_OFFSET && inside
 }
 

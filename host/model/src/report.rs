@@ -59,8 +59,8 @@ impl Asked<'_> {
         let header = crate::header(self.image).map(|header| {
             let (nodes, blocks) = (header.nodes, header.blocks);
             format!(
-                "method {}, nodes {:x} at {:x}, blocks {:x} at {:x}",
-                header.method, nodes.number, nodes.offset, blocks.number, blocks.offset
+                "method {}, nodes {:x} at {:x}, blocks {:x} at {:x}, end {}",
+                header.method, nodes.number, nodes.offset, blocks.number, blocks.offset, header.end
             )
         });
         self.say("header", or_refusal(header));

@@ -1,6 +1,7 @@
-//! Whole-tree check, lookup and listing (01, Pages and trees).
+//! Whole-tree check, lookup and listing (01, Pages and trees). `file` is an image up to where the file
+//! ends, under a header that has been accepted.
 
-use crate::header::{header, Header, Reference};
+use crate::header::{file, header, Header, Reference};
 use crate::page::{Page, Range, Sought, Tree};
 use crate::refusal::Answer;
 
@@ -32,12 +33,12 @@ impl<T> Lookup<T> {
 
 pub fn check_nodes(image: &[u8]) -> Answer<()> {
     let header = header(image)?;
-    check_under(image, Tree::Nodes, root(header.nodes))
+    check_under(file(image), Tree::Nodes, root(header.nodes))
 }
 
 pub fn check_blocks(image: &[u8]) -> Answer<()> {
     let header = header(image)?;
-    check_under(image, Tree::Blocks, root(header.blocks))
+    check_under(file(image), Tree::Blocks, root(header.blocks))
 }
 
 fn root(reference: Reference) -> Sought {
@@ -56,17 +57,17 @@ pub(crate) fn root_of(header: &Header, tree: Tree) -> Sought {
 }
 
 /// The page, then its children from left to right, each with everything under it.
-fn check_under(image: &[u8], tree: Tree, sought: Sought) -> Answer<()> {
-    let page = Page::check(image, tree, sought)?;
+fn check_under(file: &[u8], tree: Tree, sought: Sought) -> Answer<()> {
+    let page = Page::check(file, tree, sought)?;
     for child in (0..page.count).filter_map(|at| page.child(at)) {
-        check_under(image, tree, child)?;
+        check_under(file, tree, child)?;
     }
     Ok(())
 }
 
 /// The leaf entry whose key equals the key sought, by its one path.
 pub(crate) fn find<'a>(
-    image: &'a [u8],
+    file: &'a [u8],
     header: &Header,
     tree: Tree,
     number: u64,
@@ -75,7 +76,7 @@ pub(crate) fn find<'a>(
     let mut sought = root_of(header, tree);
     let mut pages = 0;
     loop {
-        let page = Page::check(image, tree, sought)?;
+        let page = Page::check(file, tree, sought)?;
         pages += 1;
         let Some(at) = page.last_at_most(key) else {
             return Ok(Lookup::Absent { pages });
@@ -94,13 +95,13 @@ pub(crate) fn find<'a>(
 
 /// The first leaf entry whose key is at least `from`, which is compared with the keys as it stands.
 pub(crate) fn next<'a>(
-    image: &'a [u8],
+    file: &'a [u8],
     header: &Header,
     tree: Tree,
     from: u64,
 ) -> Answer<Lookup<&'a [u8]>> {
     let mut pages = 0;
-    let entry = next_under(image, tree, root_of(header, tree), from, &mut pages)?;
+    let entry = next_under(file, tree, root_of(header, tree), from, &mut pages)?;
     Ok(match entry {
         Some(entry) => Lookup::Found { pages, entry },
         None => Lookup::Absent { pages },
@@ -108,20 +109,20 @@ pub(crate) fn next<'a>(
 }
 
 fn next_under<'a>(
-    image: &'a [u8],
+    file: &'a [u8],
     tree: Tree,
     sought: Sought,
     from: u64,
     pages: &mut u64,
 ) -> Answer<Option<&'a [u8]>> {
-    let page = Page::check(image, tree, sought)?;
+    let page = Page::check(file, tree, sought)?;
     *pages += 1;
     if page.level == 0 {
         return Ok(page.first_at_least(from).map(|at| page.entry(at)));
     }
     let start = page.last_at_most(from).unwrap_or(0);
     for child in (start..page.count).filter_map(|at| page.child(at)) {
-        if let Some(entry) = next_under(image, tree, child, from, pages)? {
+        if let Some(entry) = next_under(file, tree, child, from, pages)? {
             return Ok(Some(entry));
         }
     }

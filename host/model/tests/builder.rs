@@ -13,8 +13,8 @@ fn assert_read_back(built: &Built) {
     assert_eq!(model::check_nodes(image), Ok(()));
     assert_eq!(model::check_blocks(image), Ok(()));
     assert_eq!(
-        model::header(image).map(|header| header.method),
-        Ok(built.method)
+        model::header(image).map(|header| (header.method, header.end)),
+        Ok((built.method, image.len() as u64))
     );
     for node in &built.nodes {
         let number = u64::from(node.node) | 5 << 32;

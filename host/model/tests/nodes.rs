@@ -3,7 +3,7 @@
 
 use model::build::lists::{deep, mixed};
 use model::build::{build, build_small, Built, PlacedPage, Plan};
-use model::damage::{spoil, Damage, HEADER, KEYS, PAGE};
+use model::damage::{spoil, Damage, END, HEADER, KEYS, PAGE};
 use model::nodes::in_words;
 use model::page::Tree;
 use model::random::Random;
@@ -273,7 +273,7 @@ fn damaged_images() {
     for seed in 0..120 {
         let built = build_small(seed);
         let mut random = Random::new(seed);
-        for &damage in HEADER.iter().chain(PAGE).chain(KEYS) {
+        for &damage in HEADER.iter().chain(PAGE).chain(KEYS).chain(END) {
             let sealed = damage != Damage::PageByte;
             let image = spoil(&built, damage, sealed, &mut random).image;
             let nodes = list(&built, 2 * built.nodes.len());
@@ -284,7 +284,7 @@ fn damaged_images() {
             met.extend(refusals.map(|refusal| refusal.number));
         }
     }
-    assert_eq!(met, (2..=11).chain([21]).collect());
+    assert_eq!(met, (1..=11).chain([21]).collect());
 }
 
 /// What the chosen images are made for: one list meets all, and one goes through every leaf.

@@ -15,6 +15,7 @@ fn header_of_a_real_file() {
     assert_eq!(header.method, 0);
     assert_eq!((header.nodes.number, header.nodes.offset), (0x83, 0x6A00));
     assert_eq!((header.blocks.number, header.blocks.offset), (0x8A, 0x6000));
+    assert_eq!(header.end, image().len() as u64);
 }
 
 #[test]

@@ -2,14 +2,28 @@
 
 use crate::account::Spot;
 use crate::outcome::Outcome;
+use crate::place::may_begin_at;
 use crate::source::Source;
-use rekwonuda::{Fault, Refusal};
+use rekwonuda::{Fault, Refusal, LONGEST_IMAGE};
 
 /// How many bytes the header's first checksum covers, from byte 8 on. It is the same in all editions.
 pub const FIRST_SUMMED: usize = 471;
 
-const NEW_COPY: &str = "The file is damaged or was cut short in transfer. Ask for a fresh copy, \
-    made while Outlook was closed, or have the sender run Microsoft's scanpst.exe on it. Do not open \
+const NEW_COPY: &str = "The file is damaged, or its transfer left some of it out. Ask for a fresh \
+    copy, made while Outlook was closed, or have the sender run Microsoft's scanpst.exe on it. Do not \
+    open it with a reader that repairs silently: what that shows need not be what was written.";
+const CUT_SHORT: &str =
+    "The file was cut short in transfer, or copied while Outlook was writing it: \
+    its last bytes are missing. Ask for it again, copied while Outlook was closed, and compare the \
+    sizes: a whole copy has at least as many bytes as the header says.";
+const CUT_SHORT_AND_LONG: &str = "The file was cut short in transfer, or copied while Outlook was \
+    writing it: its last bytes are missing. By its header a whole copy has more than 1 GiB \
+    (1,073,741,824 bytes), which this reader does not take: have its owner move part of the mail into \
+    a second data file in Outlook, and ask for both.";
+const PAST_END: &str = "The header and the tree do not go together: by the header the file ends \
+    before this page does, as in a copy made while Outlook was writing. What stands there, if \
+    anything, may be of an earlier state of the file, and is not read. Ask for a fresh copy, made \
+    while Outlook was closed, or have the sender run Microsoft's scanpst.exe on the file. Do not open \
     it with a reader that repairs silently: what that shows need not be what was written.";
 const TOO_SHORT: &str =
     "This cannot be a .pst file: the copy is empty or broke off at once, or it \
@@ -73,9 +87,10 @@ pub fn outcome(source: &Source, refusal: &Refusal, spot: &Spot) -> Outcome {
     }
 }
 
-/// What is wrong. Of the two bounds of a length, the one that does not hold.
+/// What is wrong. Of the bounds of a length, the one that does not hold.
 pub fn meaning(source: &Source, refusal: &Refusal) -> &'static str {
     match refusal.fault {
+        Fault::ImageLength if refusal.place != 0 => "the file is shorter than its header says",
         Fault::ImageLength if source.is_too_long() => {
             "the file is over 1,073,741,824 bytes (1 GiB) long, the most that is covered"
         }
@@ -87,6 +102,10 @@ pub fn meaning(source: &Source, refusal: &Refusal) -> &'static str {
 /// What to do.
 pub fn advice(source: &Source, refusal: &Refusal, spot: &Spot) -> &'static str {
     match (refusal.fault, spot) {
+        (Fault::ImageLength, _) if refusal.place != 0 => match stated_end(source) {
+            0..=LONGEST_IMAGE => CUT_SHORT,
+            _ => CUT_SHORT_AND_LONG,
+        },
         (Fault::ImageLength, _) if source.is_too_long() => TOO_LONG,
         (Fault::ImageLength, _) => TOO_SHORT,
         (Fault::Magic, _) if refusal.place == 0 => NO_PST,
@@ -100,6 +119,7 @@ pub fn advice(source: &Source, refusal: &Refusal, spot: &Spot) -> &'static str {
         (Fault::KeyRange, _) => STALE_PAGE,
         (_, Spot::Data(_)) => BAD_DATA,
         (_, Spot::Block(..)) => BAD_BLOCK,
+        (Fault::PageOffset, _) if may_begin_at(refusal.place) => PAST_END,
         _ => NEW_COPY,
     }
 }
@@ -132,6 +152,12 @@ pub fn version(source: &Source) -> u16 {
         [low, high] => u16::from_le_bytes([*low, *high]),
         _ => 0,
     }
+}
+
+/// Where the header says that the file ends, whether it is accepted or not.
+pub fn stated_end(source: &Source) -> u64 {
+    let bytes = source.bytes_at(184, 8).iter().rev();
+    bytes.fold(0, |number, byte| number << 8 | u64::from(*byte))
 }
 
 /// The edition that a version other than 23 stands for.

@@ -52,10 +52,11 @@ pub enum Command {
     /// Check a file, or every .pst file of a folder
     ///
     /// Five stages: the header, both trees, every listed block, and the data of every node, up to the
-    /// first refusal. Not looked at are subnodes, and heaps in the data. Of several files, or of a
-    /// folder, it gives one line each and a summary.
+    /// first refusal. Not looked at are subnodes, and heaps in the data. That bytes hang on behind the
+    /// end that the header states is remarked, and no fault. Of several files, or of a folder, it gives
+    /// one line each and a summary.
     Check(CheckArguments),
-    /// Say what the file is: its size, encoding method, trees and their counts
+    /// Say what the file is: its size and end, encoding method, trees and their counts
     Info(FileArgument),
     /// List all nodes: number, type, parent, data block and subnode block
     Nodes(FileArgument),

@@ -1,4 +1,5 @@
 use crate::account::{Account, Spot};
+use crate::ending::{Ending, Remark};
 use crate::keys::Keys;
 use crate::outcome::{Failure, Outcome};
 use crate::output::Output;
@@ -36,6 +37,7 @@ struct Check<'a, 'b> {
     /// What the refusals of the present stage come to.
     worst: Option<Outcome>,
     decisive: Option<Account>,
+    remark: Option<Remark>,
     stages: Vec<Stage>,
     bar: ProgressBar,
 }
@@ -52,11 +54,12 @@ pub fn check(source: &Source, way: Way, out: &mut Output<'_>) -> Result<Report, 
         stage: STAGES[0],
         worst: None,
         decisive: None,
+        remark: None,
         stages: Vec::new(),
         bar: ProgressBar::hidden(),
     };
     check.run()?;
-    let report = Report::new(check.stages, check.decisive);
+    let report = Report::new(check.stages, check.decisive, check.remark);
     report.tell(way, out)?;
     Ok(report)
 }
@@ -113,12 +116,17 @@ impl Check<'_, '_> {
     }
 
     fn header(&mut self) -> Result<Stage, Failure> {
-        match self.source.image().header() {
-            Ok(header) => {
-                let method = header.method.to_string();
+        let header = self.source.image().header();
+        match header.and_then(|header| Ok((header.method, Ending::of(self.source)?))) {
+            Ok((method, ending)) => {
+                self.remark = ending.remark();
                 Ok(Stage::new(
                     format!("method {method}"),
-                    json!({ "method": method }),
+                    json!({
+                        "method": method.to_string(),
+                        "end": ending.end.to_string(),
+                        "hanging": ending.hanging(),
+                    }),
                 ))
             }
             Err(refusal) => {

@@ -1,4 +1,5 @@
 use crate::account::Spot;
+use crate::ending::Ending;
 use crate::outcome::{At, Failure, Outcome};
 use crate::output::Output;
 use crate::progress;
@@ -18,10 +19,14 @@ pub fn info(source: &Source, out: &mut Output<'_>) -> Result<Outcome, Failure> {
         size.as_deref().unwrap_or("unknown")
     ))?;
     let header = source.image().header().at(Spot::Header)?;
+    let ending = Ending::of(source).at(Spot::Header)?;
     let method = header.method.to_string();
+    out.fact("end", ending.end.to_string())?;
+    out.fact("hanging", ending.hanging())?;
     out.fact("method", method.as_str())?;
     out.fact("node_root", reference(&header.nodes))?;
     out.fact("block_root", reference(&header.blocks))?;
+    out.row(format!("end          {}", ending.text()))?;
     out.row(format!("method       {method}"))?;
     out.row(format!("node tree    {}", root(&header.nodes)))?;
     out.row(format!("block tree   {}", root(&header.blocks)))?;

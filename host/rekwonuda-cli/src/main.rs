@@ -6,6 +6,7 @@ mod advice;
 mod args;
 mod check;
 mod contexts;
+mod ending;
 mod find;
 mod folder;
 mod folders;

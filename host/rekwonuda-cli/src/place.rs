@@ -1,16 +1,17 @@
 //! What lies at the place of a refusal, for someone who has no description of the format at hand.
 
 use crate::account::Spot;
-use crate::advice::{edition, version, FIRST_SUMMED};
+use crate::advice::{edition, stated_end, version, FIRST_SUMMED};
 use crate::keys;
 use crate::list::kind;
 use crate::source::Source;
-use crate::users::missing;
+use crate::users::{missing, refused};
 use crate::words::{counted, node_type, place, spaced_hex};
 use indicatif::HumanCount;
 use rekwonuda::{Block, Fault, Node, Refusal, WrongKey, LARGEST_BLOCK};
 
 const FIRST_ROOM: u64 = 0x4400;
+const STEP: u64 = 64;
 const PAGE: usize = 512;
 const SECOND_SUMMED: usize = 516;
 
@@ -22,11 +23,11 @@ pub fn lies_there(
     wrong_key: Option<&WrongKey>,
 ) -> String {
     match refusal.number() {
-        1 => match source.size {
+        1 if refusal.place == 0 => match source.size {
             Some(size) => format!("the whole file: {}", counted(size, "byte")),
             None => "the whole stream, which was not read to its end".to_string(),
         },
-        2..=5 => in_header(source, refusal),
+        1..=5 => in_header(source, refusal),
         6 => no_page(source, refusal, spot),
         7..=11 | 21 => in_tree(source, refusal, spot, wrong_key),
         12..=16 => in_blocks(source, refusal, spot),
@@ -38,6 +39,7 @@ fn in_header(source: &Source, refusal: &Refusal) -> String {
     let at = place(refusal.place);
     let shown = |length| spaced_hex(source.bytes_at(refusal.place, length));
     match (refusal.number(), refusal.place) {
+        (1, _) => format!("{at}: {}", too_short(source)),
         (2, 0) => format!(
             "{at}: the file's first bytes are {}, and should be 21 42 44 4e",
             shown(4)
@@ -62,6 +64,15 @@ fn in_header(source: &Source, refusal: &Refusal) -> String {
             shown(1)
         ),
     }
+}
+
+fn too_short(source: &Source) -> String {
+    let (end, size) = (stated_end(source), source.size.unwrap_or(0));
+    let missing = HumanCount(end.saturating_sub(size));
+    let (end, size) = (place(end), counted(size, "byte"));
+    format!(
+        "the header says that the file ends at {end}, and it has only {size}, {missing} too few"
+    )
 }
 
 fn checksum(source: &Source, length: usize, stored: &str) -> String {
@@ -124,14 +135,24 @@ fn zeros_at(source: &Source, place: u64, length: usize) -> &'static str {
     }
 }
 
+/// Whether a page or a block may begin there, unless the file ends too early.
+pub fn may_begin_at(offset: u64) -> bool {
+    offset.is_multiple_of(STEP) && offset >= FIRST_ROOM
+}
+
 fn why_not_there(source: &Source, offset: u64, room: u64) -> String {
-    if !offset.is_multiple_of(64) {
-        "pages and blocks begin at multiples of 64".to_string()
+    if !offset.is_multiple_of(STEP) {
+        format!("pages and blocks begin at multiples of {STEP}")
     } else if offset < FIRST_ROOM {
         format!("none stands in the first {} bytes", HumanCount(FIRST_ROOM))
     } else {
-        let size = place(source.size.unwrap_or(0));
-        format!("the file ends at {size}, and {room} bytes are needed there")
+        let end = stated_end(source);
+        let ends = format!("the file ends at {}", place(end));
+        let needed = format!("and {room} bytes are needed there");
+        if source.size == Some(end) {
+            return format!("{ends}, {needed}");
+        }
+        format!("by the header {ends}, {needed}; what hangs on behind does not count")
     }
 }
 
@@ -156,6 +177,11 @@ fn listed_block(source: &Source, refusal: &Refusal, block: &Block) -> String {
         let zeros = zeros_at(source, block.offset, block.size.into());
         return format!("{named}{zeros}");
     }
+    format!("{named}, {}", listed_wrongly(source, block))
+}
+
+/// Why no block can be where this one is listed, or be so long.
+fn listed_wrongly(source: &Source, block: &Block) -> String {
     let why = if (1..=LARGEST_BLOCK).contains(&block.size.into()) {
         why_not_there(source, block.offset, rekwonuda::room(block.size.into()))
     } else {
@@ -164,7 +190,7 @@ fn listed_block(source: &Source, refusal: &Refusal, block: &Block) -> String {
             HumanCount(LARGEST_BLOCK as u64)
         )
     };
-    format!("{named}, is listed there, but {why}")
+    format!("is listed there, but {why}")
 }
 
 fn block_of_node(source: &Source, refusal: &Refusal, node: &Node) -> String {
@@ -177,8 +203,20 @@ fn block_of_node(source: &Source, refusal: &Refusal, node: &Node) -> String {
             _ => format!("block {data}, {whose}"),
         },
         Fault::DataTree => format!("{at}: block {data}, which lists {whose}"),
-        _ if node.has_data_tree() => format!("{at}: a block of {whose}"),
-        _ => format!("{at}: block {data}, {whose}"),
+        Fault::BlockOffset => {
+            let block = refused(source, node, refusal);
+            let why = block.map(|block| format!(", {}", listed_wrongly(source, &block)));
+            format!("{at}: {}{}", whose_block(node), why.unwrap_or_default())
+        }
+        _ => format!("{at}: {}", whose_block(node)),
+    }
+}
+
+fn whose_block(node: &Node) -> String {
+    let whose = data_of(node);
+    match node.data {
+        Some(data) if !node.has_data_tree() => format!("block {data}, {whose}"),
+        _ => format!("a block of {whose}"),
     }
 }
 

@@ -2,9 +2,10 @@
 
 use crate::account::Account;
 use crate::check::Way;
+use crate::ending::Remark;
 use crate::outcome::{Failure, Outcome};
 use crate::output::Output;
-use crate::words::counted;
+use crate::words::{counted, indented};
 use indicatif::HumanCount;
 use rekwonuda::Refusal;
 use serde_json::{json, Map, Value};
@@ -23,6 +24,7 @@ pub struct Report {
     stages: Vec<Stage>,
     /// The refusal that decides the outcome.
     decisive: Option<Account>,
+    remark: Option<Remark>,
 }
 
 /// What came out of a stage.
@@ -159,22 +161,28 @@ fn facts(values: Value) -> Map<String, Value> {
 }
 
 impl Report {
-    pub fn new(stages: Vec<Stage>, decisive: Option<Account>) -> Report {
+    pub fn new(stages: Vec<Stage>, decisive: Option<Account>, remark: Option<Remark>) -> Report {
         let outcome = decisive.as_ref().map(|account| account.outcome);
         Report {
             outcome: outcome.unwrap_or(Outcome::Accepted),
             stages,
             decisive,
+            remark,
         }
     }
 
-    /// Ends the report of a file: the account of a refusal, and what was looked at.
+    /// Ends the report of a file: a remark, the account of a refusal, and what was looked at.
     pub fn tell(&self, way: Way, out: &mut Output<'_>) -> Result<(), Failure> {
         out.end_list()?;
         let stages: Vec<Value> = self.stages.iter().map(Stage::entry).collect();
         out.fact("stages", stages)?;
+        let remark = self.remark.as_ref().map(Remark::text);
+        out.fact("remarks", remark.iter().cloned().collect::<Vec<_>>())?;
         out.fact("not_looked_at", self.left())?;
         out.row("")?;
+        if let Some(remark) = remark {
+            out.row(format!("Remark:\n{}\n", indented(&remark)))?;
+        }
         match &self.decisive {
             Some(account) if way.all => out.row(account.advice())?,
             Some(account) => out.row(account.text())?,
@@ -193,8 +201,17 @@ impl Report {
         stages.copied().chain(NOT_LOOKED_AT).collect()
     }
 
-    /// What is refused, in one line; none where all is accepted.
+    /// What is refused, and a remark, in one line; none where all is accepted and nothing remarked.
     pub fn line(&self, way: Way) -> Option<String> {
+        let refused = self.refused(way);
+        let remark = self.remark.as_ref();
+        let remark = remark.map(|remark| format!("remark: {}", remark.line));
+        let parts: Vec<String> = refused.into_iter().chain(remark).collect();
+        (!parts.is_empty()).then(|| parts.join("; "))
+    }
+
+    /// What is refused, in one line; none where all is accepted.
+    fn refused(&self, way: Way) -> Option<String> {
         if !way.all {
             return self.decisive.as_ref().map(Account::line);
         }

@@ -3,7 +3,7 @@
 use crate::source::Source;
 use crate::walk;
 use crate::words::counted;
-use rekwonuda::{BlockId, Node, NodeId};
+use rekwonuda::{Block, BlockId, Node, NodeId, Refusal};
 
 /// As many are named of one block.
 const MOST_NAMED: usize = 100;
@@ -75,6 +75,15 @@ pub fn missing(source: &Source, node: &Node) -> Option<BlockId> {
         let found = source.image().find_block(*block);
         found.is_ok_and(|lookup| lookup.entry.is_none())
     })
+}
+
+/// A block that the data of a node asks for and that is refused in this way, as it is listed.
+pub fn refused(source: &Source, node: &Node, refusal: &Refusal) -> Option<Block> {
+    let image = source.image();
+    let asked = asked(source, node).into_iter();
+    let mut listed = asked.filter_map(|block| image.find_block(block).ok()?.entry);
+    listed
+        .find(|block| block.offset == refusal.place && image.test_block(block.id) == Err(*refusal))
 }
 
 #[cfg(test)]

@@ -71,6 +71,8 @@ answers! {
         blocks_number,
         /// The offset of the block tree's root page.
         blocks_offset,
+        /// The end-of-file number, at most the length of the image.
+        end,
     }
 
     /// A node.

@@ -12,6 +12,7 @@ use rekwonuda_sys::{BlockAnswer, HeaderAnswer, NodeAnswer};
 /// let bytes = std::fs::read("../../samples/office.pst")?;
 /// let header = Image::new(&bytes).header()?;
 /// assert_eq!(header.method, Method::Permute);
+/// assert_eq!(header.end, 49_152);
 /// # Ok::<(), Box<dyn std::error::Error>>(())
 /// ```
 #[non_exhaustive]
@@ -23,6 +24,9 @@ pub struct Header {
     pub nodes: PageReference,
     /// The root page of the block tree.
     pub blocks: PageReference,
+    /// Where the file ends: each page and each block ends there or before. At most the length of the
+    /// image; [`Image::hanging`](crate::Image::hanging) has what follows.
+    pub end: u64,
 }
 
 /// The number of a page and where it stands.
@@ -131,6 +135,7 @@ impl Header {
                 number: answer.blocks_number,
                 offset: answer.blocks_offset,
             },
+            end: answer.end,
         }
     }
 }

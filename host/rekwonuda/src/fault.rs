@@ -41,7 +41,8 @@ macro_rules! faults {
 }
 
 faults! {
-    /// 1: the image is under 564 or over 1,073,741,824 bytes long.
+    /// 1: the image is under 564 or over 1,073,741,824 bytes long; or, at 184, shorter than its header
+    /// says.
     1 ImageLength,
     /// 2: the magic bytes are wrong, at 0 or 8.
     2 Magic,
@@ -51,7 +52,7 @@ faults! {
     4 HeaderChecksum,
     /// 5: the header's sentinel or encoding method is wrong, at 512 or 513.
     5 Encoding,
-    /// 6: the offset of a page is not allowed.
+    /// 6: the offset of a page is not allowed, or the page goes past the end of the file.
     6 PageOffset,
     /// 7: the kind of a page is wrong.
     7 PageKind,
@@ -65,7 +66,7 @@ faults! {
     11 KeyOrder,
     /// 12: a block to be tested or read is not in the block tree.
     12 BlockUnlisted,
-    /// 13: the offset or size of a block is not allowed.
+    /// 13: the offset or size of a block is not allowed, or its room goes past the end of the file.
     13 BlockOffset,
     /// 14: the trailer of a block is wrong.
     14 BlockTrailer,

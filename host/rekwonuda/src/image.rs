@@ -1,6 +1,7 @@
 use crate::refusal::answered;
 use crate::{
     Block, BlockId, Blocks, Fault, Header, Lookup, Node, NodeId, Nodes, Refusal, LARGEST_BLOCK,
+    SHORTEST_IMAGE,
 };
 use rekwonuda_sys::{self as sys, NodeAnswer};
 
@@ -43,6 +44,28 @@ impl<'a> Image<'a> {
     /// Refusals 1 to 5.
     pub fn header(&self) -> Result<Header, Refusal> {
         answered(sys::header(self.0)).map(|answer| Header::of(&answer))
+    }
+
+    /// The bytes that hang on behind the file: those behind [`Header::end`] and behind the header
+    /// itself. What other calls answer does not depend on them, while the image is no longer than
+    /// [`LONGEST_IMAGE`](crate::LONGEST_IMAGE).
+    ///
+    /// ```
+    /// use rekwonuda::Image;
+    ///
+    /// let mut bytes = std::fs::read("../../samples/office.pst")?;
+    /// assert!(Image::new(&bytes).hanging()?.is_empty());
+    /// bytes.extend(*b"old bytes");
+    /// assert_eq!(Image::new(&bytes).hanging()?, b"old bytes");
+    /// # Ok::<(), Box<dyn std::error::Error>>(())
+    /// ```
+    ///
+    /// # Errors
+    ///
+    /// Refusals 1 to 5.
+    pub fn hanging(&self) -> Result<&'a [u8], Refusal> {
+        let start = self.header()?.end.max(SHORTEST_IMAGE) as usize;
+        Ok(self.0.get(start..).unwrap_or_default())
     }
 
     /// Checks the header and then the whole node tree.

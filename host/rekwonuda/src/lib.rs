@@ -24,9 +24,9 @@
 //! the words of a refusal and what is put together from several proved answers: the iterators
 //! [`Image::nodes`], [`Image::blocks`], [`Heap::properties`] and [`Table::columns`], the scan of
 //! [`Table::find_column`], the pieces of [`Image::find_nodes`], the buffers of [`Image::block_data`] and
-//! [`Image::node_data`], and that a table lacks its rows. Two calls read bytes of the image by
-//! themselves: [`Image::data_blocks`] a list of blocks, [`Image::wrong_node_key`] and its like the pages
-//! of a tree.
+//! [`Image::node_data`], where [`Image::hanging`] begins, and that a table lacks its rows. Two calls read
+//! bytes of the image by themselves: [`Image::data_blocks`] a list of blocks, [`Image::wrong_node_key`]
+//! and its like the pages of a tree.
 #![deny(missing_docs)]
 #![forbid(unsafe_code)]
 #![warn(

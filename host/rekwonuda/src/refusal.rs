@@ -91,7 +91,10 @@ impl Refusal {
 
     fn meaning_in_header(&self) -> &'static str {
         match (self.fault, self.place) {
-            (Fault::ImageLength, _) => "the image is under 564 or over 1,073,741,824 bytes long",
+            (Fault::ImageLength, 0) => "the image is under 564 or over 1,073,741,824 bytes long",
+            (Fault::ImageLength, _) => {
+                "the image is shorter than its header says, as of a file that was cut short"
+            }
             (Fault::Magic, 0) => "the file does not begin with the mark of a .pst file",
             (Fault::Magic, _) => "the second mark of a .pst file is not there",
             (Fault::Version, _) => "the version is not 23, that of the 64-bit edition",
@@ -107,14 +110,13 @@ impl Refusal {
     /// Whether the fault has a place in the image.
     fn has_place(&self) -> bool {
         match self.fault {
-            Fault::ImageLength
-            | Fault::BlockUnlisted
+            Fault::BlockUnlisted
             | Fault::ShortBuffer
             | Fault::HeapShape
             | Fault::HeapItem
             | Fault::PropertyTree
             | Fault::TableShape => false,
-            Fault::Encoding => self.place != 0,
+            Fault::ImageLength | Fault::Encoding => self.place != 0,
             _ => true,
         }
     }

@@ -111,7 +111,7 @@ impl<'a> Image<'a> {
     /// All pages of the node tree whose keys are at fault, each with its first such entry, in the order
     /// of [`Image::check_nodes`]. What is refused otherwise is passed over, and below a page that is
     /// refused nothing is looked at. Behind as many references as there are offsets for a page in the
-    /// image it ends: an accepted tree has no more.
+    /// file it ends: an accepted tree has no more.
     pub fn wrong_node_keys(&self) -> WrongKeys<'a> {
         WrongKeys::new(*self, Tree::Nodes)
     }
@@ -142,6 +142,7 @@ fn named_by(refusal: &Refusal, mut wrong_keys: WrongKeys<'_>) -> Option<WrongKey
 #[derive(Clone, Debug)]
 #[must_use = "an iterator does nothing until it is gone through"]
 pub struct WrongKeys<'a> {
+    /// The file, without what hangs on behind it.
     bytes: &'a [u8],
     tree: Tree,
     /// The branches to be followed, the next one last.
@@ -158,7 +159,8 @@ impl<'a> WrongKeys<'a> {
             Tree::Nodes => header.nodes,
             Tree::Blocks => header.blocks,
         });
-        let bytes = image.bytes();
+        let end = header.map_or(0, |header| header.end as usize);
+        let bytes = image.bytes().get(..end).unwrap_or_default();
         Self {
             bytes,
             tree,
@@ -249,9 +251,9 @@ struct Page<'a> {
 }
 
 impl<'a> Page<'a> {
-    fn behind(branch: Branch, tree: Tree, image: &'a [u8]) -> Option<Self> {
+    fn behind(branch: Branch, tree: Tree, file: &'a [u8]) -> Option<Self> {
         let start = usize::try_from(branch.page.offset).ok()?;
-        let bytes = image.get(start..start.checked_add(PAGE)?)?;
+        let bytes = file.get(start..start.checked_add(PAGE)?)?;
         let page = Self {
             branch,
             tree,

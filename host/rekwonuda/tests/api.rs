@@ -22,6 +22,7 @@ fn the_sample_is_answered_as_known() {
         (Method::None, 131, 27136)
     );
     assert_eq!((header.blocks.number, header.blocks.offset), (138, 24576));
+    assert_eq!((header.end, image.hanging()), (27_648, Ok(&[][..])));
     let refusal = image.check_nodes().unwrap_err();
     assert_eq!(
         refusal,
@@ -247,6 +248,11 @@ fn refusals_say_what_is_wrong_and_where() {
         said(2, 0, 0),
         "refusal 2: the file does not begin with the mark of a .pst file; at 0x0 (0)"
     );
+    assert_eq!(
+        said(1, 0, 0),
+        "refusal 1: the image is under 564 or over 1,073,741,824 bytes long"
+    );
+    assert_eq!(said(1, 184, 0), "refusal 1: the image is shorter than its header says, as of a file that was cut short; at 0xb8 (184)");
     assert_eq!(said(5, 0, 0), "refusal 5: the encoding method is over 2");
     assert_eq!(said(23, 0, 0), "refusal 23: the shape of a table is wrong");
     assert_eq!(said(11, 0x4E00, 3), "refusal 11: an entry's key is not above the one before it, as in a page that was shuffled or overwritten; entry 3 (counted from 0) of the page at 0x4e00 (19968)");

@@ -360,9 +360,12 @@ fn refused_earlier(number: u64, edit: impl Fn(&mut Vec<u8>)) {
 #[test]
 fn the_other_tests_of_a_page_come_before_its_keys() {
     let leaf = NODE_LEAF;
-    for offset in [0x4200, 0xC020] {
+    // In the first bytes, at no multiple of 64, and in the image but past the end of the file.
+    for (offset, end) in [(0x4200, 0xC000), (0xC020, 0xC240), (0xC040, 0xC23F)] {
         refused_earlier(6, |image| {
-            image.resize(0xC220, 0);
+            image.resize(0xC240, 0);
+            put(image, 184, end);
+            seal_header(image);
             image.copy_within(leaf..leaf + 512, offset);
             seal_page(image, offset);
             put(image, NODE_ROOT + 16, offset as u64);
@@ -420,6 +423,7 @@ fn ladder() -> Vec<u8> {
     for level in 0..8 {
         put_rung(&mut image, level);
     }
+    put(&mut image, 184, rung(8) as u64);
     put(&mut image, 232, 7);
     put(&mut image, 240, rung(7) as u64);
     seal_header(&mut image);

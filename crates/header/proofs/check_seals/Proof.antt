@@ -29,14 +29,8 @@ returns-3 c =
 returns-4 : tie.Need-returns-4
 unfolding sealRules headerSumFits
 returns-4 c =
-    let d4 = c .before in let d3 = d4 .before .before in let d2 = d3 .before .before in let d1 = d2 .before .before .before in
-    c .refused-at4 .ensures ∙ sym (refused-exactly _ _ .1 (later (holds _ _ (d1 .before .sum-stands .ensures ∙ ap (eqb _) (d1 .before .before .partial-sum .ensures)) (d1 .if1 .left)) (later (holds _ _ (d2 .before .sum-stands2 .ensures ∙ ap (eqb _) (d2 .before .before .whole-sum .ensures)) (d2 .if2 .left)) (later (holds _ _ (d3 .before .sentinel-fits .ensures) (d3 .if3 .left)) (here (fails _ _ (d4 .before .encoding-fits .ensures) (d4 .if4 .taken)))))))
-
-returns-5 : tie.Need-returns-5
-unfolding sealRules headerSumFits
-returns-5 c =
-    let d4 = c in let d3 = d4 .before .before in let d2 = d3 .before .before in let d1 = d2 .before .before .before in
-    sym (accepted-exactly (sealRules _) .1 (both (holds _ _ (d1 .before .sum-stands .ensures ∙ ap (eqb _) (d1 .before .before .partial-sum .ensures)) (d1 .if1 .left)) (both (holds _ _ (d2 .before .sum-stands2 .ensures ∙ ap (eqb _) (d2 .before .before .whole-sum .ensures)) (d2 .if2 .left)) (both (holds _ _ (d3 .before .sentinel-fits .ensures) (d3 .if3 .left)) (both (holds _ _ (d4 .before .encoding-fits .ensures) (d4 .if4 .left)) none)))))
+    let d3 = c in let d2 = d3 .before .before in let d1 = d2 .before .before .before in
+    sym (accepted-exactly (sealRules _) .1 (both (holds _ _ (d1 .before .sum-stands .ensures ∙ ap (eqb _) (d1 .before .before .partial-sum .ensures)) (d1 .if1 .left)) (both (holds _ _ (d2 .before .sum-stands2 .ensures ∙ ap (eqb _) (d2 .before .before .whole-sum .ensures)) (d2 .if2 .left)) (both (holds _ _ (d3 .before .sentinel-fits .ensures) (d3 .if3 .left)) none))))
 
 pub check-seals-spec : {M : Type 1} → statement M
 check-seals-spec =
@@ -53,7 +47,4 @@ check-seals-spec =
     (λ c κs. search needs)
     (λ c κs. search needs)
     returns-3
-    (λ c κs. search needs)
-    (λ c κs. search needs)
-    returns-4
-    returns-5)
+    returns-4)

@@ -15,7 +15,7 @@ returns c = sym (ends Refused _ _ _ (sym (c .before .before .before .check-heade
 returns-2 : tie.Need-returns-2
 unfolding headerOf says
 returns-2 c =
-    sym (goes Refused _ _ (sym (c .before .before .before .before .before .check-header .ensures) ∙ c .before .before .before .enum-told .given .1) ∙ rw (c .before .before .reference-at .ensures, c .before .reference-at2 .ensures, c .method-of .ensures))
+    sym (goes Refused _ _ (sym (c .before .before .before .before .before .before .check-header .ensures) ∙ c .before .before .before .before .enum-told .given .1) ∙ rw (c .before .before .before .reference-at .ensures, c .before .before .reference-at2 .ensures, c .before .method-of .ensures, c .stated-end .ensures))
 
 pub header-of-spec : {M : Type 1} → statement M
 header-of-spec =
@@ -28,4 +28,5 @@ header-of-spec =
     (λ c κs. omega (arith, header-length _ (sym (c .before .before .check-header .ensures) ∙ c .enum-told .given .1)))
     (λ c κs. omega (arith, header-length _ (sym (c .before .before .before .check-header .ensures) ∙ c .before .enum-told .given .1)))
     (λ c κs. omega (arith, header-length _ (sym (c .before .before .before .before .check-header .ensures) ∙ c .before .before .enum-told .given .1)))
+    (λ c κs. search needs)
     returns-2)

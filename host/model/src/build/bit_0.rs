@@ -186,7 +186,7 @@ impl Builder {
     }
 
     /// Places a data tree that names those children.
-    fn spread(&mut self, number: u64, children: &[u64]) {
+    pub(super) fn spread(&mut self, number: u64, children: &[u64]) {
         let size = |child: u64| {
             let sought = without_bit_0(child);
             let mut placed = self.blocks.placed.iter();

@@ -3,6 +3,7 @@
 
 pub mod bit_0;
 mod blocks;
+pub mod end;
 pub mod heaps;
 pub(crate) mod items;
 pub mod keys;
@@ -21,7 +22,7 @@ use crate::random::Random;
 use blocks::Blocks;
 use heaps::{property_context, HeapPlan, PlacedHeap};
 use pages::{least_level, Entry, Grower};
-use seal::seal_header;
+use seal::set_end;
 use space::Space;
 use std::collections::BTreeMap;
 
@@ -117,6 +118,16 @@ impl Built {
         let sought = without_bit_0(number);
         let mut blocks = self.blocks.iter();
         blocks.find(|block| without_bit_0(block.number) == sought)
+    }
+
+    /// The offsets of the BBT's leaf page that lists the block of that number, and of its entry there.
+    pub fn listing(&self, number: u64) -> Option<(usize, usize)> {
+        let pages = self.pages.iter();
+        let mut leaves = pages.filter(|page| page.tree == Tree::Blocks && page.level == 0);
+        leaves.find_map(|page| {
+            let at = page.keys.iter().position(|&key| key == number)?;
+            Some((page.offset, page.offset + 24 * at))
+        })
     }
 
     /// The blocks whose bytes are the data of a node, by the numbers that name them.
@@ -394,14 +405,13 @@ fn write_header(image: &mut [u8], method: u8, nodes: Reference, blocks: Referenc
     put(image, 8, &CLIENT_MAGIC);
     put(image, 10, &VERSION.to_le_bytes());
     // Fields that no rule here looks at, as 003, 2.2.2.5 and 2.2.2.6 have them: the version of the
-    // client, its platform, and the end of the file.
+    // client, and its platform.
     put(image, 12, &[19, 0, 1, 1]);
-    let end = image.len() as u64;
-    put(image, 184, &end.to_le_bytes());
     let fields = [nodes.number, nodes.offset, blocks.number, blocks.offset];
     for (at, field) in fields.iter().enumerate() {
         put(image, 216 + 8 * at, &field.to_le_bytes());
     }
     put(image, 512, &[SENTINEL, method]);
-    seal_header(image);
+    let end = image.len() as u64;
+    set_end(image, end);
 }

@@ -12,6 +12,17 @@ pub fn seal_header(image: &mut [u8]) {
     put(image, 524, &full.to_le_bytes());
 }
 
+/// Puts the end-of-file number into the header and seals it.
+pub fn set_end(image: &mut [u8], end: u64) {
+    put_end(image, end);
+    seal_header(image);
+}
+
+/// Puts the end-of-file number into the header and leaves its checksums as they are.
+pub fn put_end(image: &mut [u8], end: u64) {
+    put(image, 184, &end.to_le_bytes());
+}
+
 /// The page's signature, by its offset and the number in it, and its checksum.
 pub fn seal_page(image: &mut [u8], offset: usize) {
     let page = &mut image[offset..offset + PAGE];

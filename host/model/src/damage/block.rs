@@ -1,13 +1,13 @@
 //! Damage to a block, to its listing in the BBT, or to a data tree.
 
 use super::{Damage, Spoiler};
-use crate::block::{is_internal, room};
+use crate::block::is_internal;
+use crate::build::end::move_block;
 use crate::build::seal::{seal_block, seal_page, trailer_at};
 use crate::build::{without_bit_0, PlacedBlock};
 use crate::bytes::{put, u64_at};
 use crate::checksum::signature;
 use crate::coding::encode;
-use crate::page::Tree;
 
 impl<'a> Spoiler<'a> {
     pub(super) fn spoil_block(&mut self, damage: Damage) {
@@ -56,7 +56,7 @@ impl<'a> Spoiler<'a> {
     }
 
     /// The block, and every node that its bytes or its numbers belong to.
-    fn look_at_block(&mut self, number: u64) {
+    pub(super) fn look_at_block(&mut self, number: u64) {
         self.blocks.push(number);
         let built = self.built;
         let same = |other: &u64| without_bit_0(*other) == without_bit_0(number);
@@ -67,21 +67,8 @@ impl<'a> Spoiler<'a> {
         self.nodes.extend(users.map(|node| u64::from(node.node)));
     }
 
-    /// The offsets of the BBT's leaf page that lists the block, and of its entry there.
-    fn listing(&self, number: u64) -> Option<(usize, usize)> {
-        let mut leaves = self
-            .built
-            .pages
-            .iter()
-            .filter(|page| page.tree == Tree::Blocks && page.level == 0);
-        leaves.find_map(|page| {
-            let at = page.keys.iter().position(|&key| key == number)?;
-            Some((page.offset, page.offset + 24 * at))
-        })
-    }
-
     fn listed(&mut self, damage: Damage, block: &PlacedBlock) {
-        let Some((page, entry)) = self.listing(block.number) else {
+        let Some((page, entry)) = self.built.listing(block.number) else {
             return;
         };
         if damage == Damage::ListedOffset {
@@ -106,7 +93,7 @@ impl<'a> Spoiler<'a> {
 
     /// A smaller block in the same place, right in itself where it is sealed.
     fn resize(&mut self, block: &PlacedBlock, size: u16) {
-        let Some((page, entry)) = self.listing(block.number) else {
+        let Some((page, entry)) = self.built.listing(block.number) else {
             return;
         };
         put(&mut self.image, entry + 16, &size.to_le_bytes());
@@ -116,27 +103,19 @@ impl<'a> Spoiler<'a> {
         }
     }
 
-    /// The block so that its room ends with the image; unsealed, one byte of the room is cut off.
+    /// The block so that its room ends with the image, and the file too; unsealed, one byte of the room is
+    /// cut off.
     fn move_to_end(&mut self, block: &PlacedBlock) {
-        let Some((page, entry)) = self.listing(block.number) else {
-            return;
-        };
-        let offset = self.image.len().next_multiple_of(64);
-        let end = offset + room(u32::from(block.size)) as usize;
-        self.image.resize(end, 0);
-        let stored = block.offset..block.offset + usize::from(block.size);
-        self.image.copy_within(stored, offset);
-        seal_block(&mut self.image, offset, block.size, block.number);
-        put(&mut self.image, entry + 8, &(offset as u64).to_le_bytes());
-        seal_page(&mut self.image, page);
+        move_block(&mut self.image, self.built, block);
         if !self.sealed {
-            self.image.truncate(end - 1);
+            self.image.pop();
         }
+        self.end_with_image();
     }
 
     /// The listed number, and where it is sealed the trailer too.
     fn listed_bit_0(&mut self, block: &PlacedBlock) {
-        let Some((page, entry)) = self.listing(block.number) else {
+        let Some((page, entry)) = self.built.listing(block.number) else {
             return;
         };
         self.image[entry] ^= 1;

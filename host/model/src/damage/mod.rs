@@ -17,6 +17,7 @@ macro_rules! kinds {
 }
 
 mod block;
+mod end;
 mod header;
 pub mod heap;
 mod keys;
@@ -24,6 +25,7 @@ mod page;
 pub mod table;
 
 use crate::build::Built;
+use crate::header::LEAST_IMAGE;
 use crate::random::Random;
 
 kinds! {
@@ -104,6 +106,14 @@ kinds! {
             CodedBit0,
             TreeBit0,
         ]
+        END [
+            EndBelow,
+            EndAbove,
+            EndNearPage,
+            HangingOn,
+            PageBehind,
+            BlockBehind,
+        ]
     }
 }
 
@@ -180,6 +190,8 @@ impl<'a> Spoiler<'a> {
             self.spoil_keys(damage);
         } else if BLOCK.contains(&damage) {
             self.spoil_block(damage);
+        } else if END.contains(&damage) {
+            self.spoil_end(damage);
         } else if damage == Cut {
             self.cut();
         } else {
@@ -194,6 +206,7 @@ impl<'a> Spoiler<'a> {
         self.image[at] ^= 1 << self.random.below(8);
     }
 
+    /// Sealed, the file ends where the image is cut off.
     fn cut(&mut self) {
         let length = self.image.len();
         let at = match self.random.below(6) {
@@ -204,6 +217,9 @@ impl<'a> Spoiler<'a> {
             _ => self.random.below(length),
         };
         self.image.truncate(at);
+        if self.sealed && at >= LEAST_IMAGE {
+            self.end_with_image();
+        }
     }
 
     /// An offset that is mostly not allowed for a page or a block.

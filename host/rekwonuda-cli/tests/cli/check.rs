@@ -2,7 +2,9 @@
 
 use crate::images::sound;
 use crate::runs::{emulated, file, office, run, run_in, Run};
-use crate::spoilt::{changed, flipped, sealed, with_block, with_bytes, with_data, with_tree};
+use crate::spoilt::{
+    changed, ending, flipped, sealed, with_block, with_bytes, with_data, with_tree,
+};
 use model::build::bit_0::ticket;
 use model::build::seal::seal_page;
 use model::build::{build, Built, PlacedPage, Plan};
@@ -59,7 +61,14 @@ fn a_sound_file_is_accepted_in_json() {
 }
 
 /// Checks a file both ways: the refusal that JSON names, and words that the text says.
-fn refused(name: &str, bytes: &[u8], status: i32, refusal: u64, place: u64, words: &[&str]) -> Run {
+pub fn refused(
+    name: &str,
+    bytes: &[u8],
+    status: i32,
+    refusal: u64,
+    place: u64,
+    words: &[&str],
+) -> Run {
     let path = file(name, bytes);
     let answer = run(&["check", "--json"], &path, &[]);
     assert_eq!(answer.status, status, "{name}");
@@ -190,12 +199,14 @@ fn a_fault_in_a_tree_names_the_tree() {
 }
 
 #[test]
-fn a_file_that_was_cut_short_says_where_it_ends() {
+fn a_page_behind_the_end_says_where_the_file_ends() {
     let built = sound();
     let last = built.pages.iter().map(|page| page.offset).max().unwrap();
-    let words = ["but the file ends at", "cut short in transfer"];
-    let cut = &built.image[..last + 511];
-    refused("cut.pst", cut, 1, 6, last as u64, &words);
+    let image = ending(built.image[..last + 511].to_vec(), last as u64 + 511);
+    let words = ["but the file ends at", "and 512 bytes are needed there"];
+    let run = refused("page_behind.pst", &image, 1, 6, last as u64, &words);
+    assert!(run.says("The header and the tree do not go together"));
+    assert!(!run.says("hang"), "{}", run.text);
 }
 
 #[test]

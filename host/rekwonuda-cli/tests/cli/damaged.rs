@@ -2,7 +2,7 @@
 
 use crate::runs::{file, run, Run};
 use model::build::{build_small, Built};
-use model::damage::{spoil, Damage, BLOCK, HEADER, KEYS, PAGE, WHOLE};
+use model::damage::{spoil, Damage, BLOCK, END, HEADER, KEYS, PAGE, WHOLE};
 use model::random::Random;
 use model::Refusal;
 use serde_json::Value;
@@ -248,4 +248,9 @@ fn blocks() {
 #[test]
 fn whole_files() {
     goes_through("damaged_whole", WHOLE);
+}
+
+#[test]
+fn ends() {
+    goes_through("damaged_end", END);
 }

@@ -4,7 +4,7 @@ use crate::images::{sample, sound};
 use crate::made::{bytes, hierarchy, table, Made, NAME};
 use crate::page::{self, Shapes};
 use crate::runs::{command, file, folder, office, repository, run, run_in, words, Run};
-use crate::spoilt::{changed, office_with_keys, NODE_LEAVES};
+use crate::spoilt::{changed, ending, office_with_keys, NODE_LEAVES};
 use model::build::tables::GivenCell;
 use serde_json::{json, Value};
 use std::ffi::OsStr;
@@ -52,6 +52,13 @@ fn answers_have_the_shape_of_the_page() {
     }
     let cut = &built.image[..built.image.len() - 2000];
     hold_commands(&shapes, &file("json_cut.pst", cut), &built.node_numbers());
+    let hanging = [&built.image[..], &[0; 2000]].concat();
+    let path = file("json_hanging.pst", &hanging);
+    hold_commands(&shapes, &path, &built.node_numbers());
+    for (at, end) in [0, 2_000, u64::MAX].into_iter().enumerate() {
+        let path = file(&format!("json_end_{at}.pst"), &ending(hanging.clone(), end));
+        hold_commands(&shapes, &path, &built.node_numbers()[..3]);
+    }
     for (at, key) in [0x21, 0x20_0124].into_iter().enumerate() {
         let image = office_with_keys(NODE_LEAVES[0], 32, &[(14, key)]);
         let path = file(&format!("json_key_{at}.pst"), &image);

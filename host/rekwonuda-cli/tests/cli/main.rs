@@ -2,6 +2,7 @@
 
 mod check;
 mod damaged;
+mod end;
 mod find;
 mod folders;
 #[path = "../../../rekwonuda/tests/images/mod.rs"]

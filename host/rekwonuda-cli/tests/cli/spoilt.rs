@@ -2,7 +2,7 @@
 
 use crate::images::sound;
 use crate::runs::office;
-use model::build::seal::{seal_block, seal_header, seal_page};
+use model::build::seal::{seal_block, seal_header, seal_page, set_end};
 use model::build::{Built, PlacedBlock};
 use model::page::Tree;
 use model::Node;
@@ -13,10 +13,20 @@ pub const NODE_ROOT: usize = 0xBE00;
 pub const NODE_LEAVES: [usize; 4] = [0xB600, 0xB800, 0xBA00, 0xBC00];
 pub const BLOCK_LEAVES: [usize; 3] = [0xAE00, 0xB000, 0xB200];
 
+pub fn office_bytes() -> Vec<u8> {
+    fs::read(office()).expect("the sample can be read")
+}
+
+/// The image with another end-of-file number, and a header sealed again.
+pub fn ending(mut image: Vec<u8>, end: u64) -> Vec<u8> {
+    set_end(&mut image, end);
+    image
+}
+
 /// The sample with other keys in some entries of a page, whose entries have that size; the page is
 /// sealed again.
 pub fn office_with_keys(page: usize, size: usize, keys: &[(usize, u64)]) -> Vec<u8> {
-    let mut image = fs::read(office()).expect("the sample can be read");
+    let mut image = office_bytes();
     for (entry, key) in keys {
         let at = page + entry * size;
         image[at..at + 8].copy_from_slice(&key.to_le_bytes());
