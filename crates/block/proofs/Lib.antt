@@ -3,3 +3,4 @@ pub mod Exactly
 pub mod TriedLaws
 pub mod BitZero
 pub mod KeyFaults
+pub mod EndLaws

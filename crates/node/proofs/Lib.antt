@@ -5,3 +5,4 @@ pub mod Exactly
 pub mod TriedLaws
 pub mod Most
 pub mod KeyFaults
+pub mod EndLaws

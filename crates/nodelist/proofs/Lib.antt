@@ -1,2 +1,3 @@
 pub mod Words
 pub mod ListLaws
+pub mod EndLaws

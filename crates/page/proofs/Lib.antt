@@ -3,3 +3,4 @@ pub mod PageLaws
 pub mod Fairs
 pub mod Exactly
 pub mod KeyFaults
+pub mod EndLaws

@@ -12,3 +12,4 @@ pub mod SecondRequest
 pub mod ThirdRequest
 pub mod FourthRequest
 pub mod FifthRequest
+pub mod SixthRequest

@@ -1,7 +1,7 @@
 -- The user's three demands, of the outcomes of the public calls alone; and what the requests of 02 add to them, of those outcomes and of pages. Assumes nothing: these are definitions.
 --
 -- The contract of a call says: what the answer means is the outcome that pst/specs/Outcomes names, and each buffer at exit is the one named there. What holds of every
--- outcome so holds of every call. Proved in pst/proofs/FirstDemand, SecondDemand, ThirdDemand, FirstRequest, SecondRequest, ThirdRequest, FourthRequest and FifthRequest.
+-- outcome so holds of every call. Proved in pst/proofs/FirstDemand, SecondDemand, ThirdDemand, FirstRequest, SecondRequest, ThirdRequest, FourthRequest, FifthRequest and SixthRequest.
 use Prim.Native.Nat.{ℕ, _+_, _*_, _/_, _%_, _^_, _≤_, _<_}
 use mathlib.Core.Path.{_≡_}
 use mathlib.Core.Bool.{true, false}
@@ -13,7 +13,7 @@ use lib.ListN.{length, getD, drop}
 use lib.Bits.{bitXor}
 use Rattle.le.specs.Bytes.{littleEndian, part, Bytes}
 use Rattle.refusal.specs.declared.Refusal.{Refusal}
-use Rattle.refusal.specs.declared.Fault.the-variants.{Encoding, KeyRange}
+use Rattle.refusal.specs.declared.Fault.the-variants.{Encoding, KeyRange, PageOffset, BlockOffset}
 use Rattle.refusal.specs.declared.Verdict.the-variants.{Refused}
 use Rattle.refusal.specs.Order.{_at_, atEntry, Rule, rule, AllHold, FirstFault}
 use Rattle.keys.specs.declared.Sought.the-variants.{Equal, AtLeast}
@@ -26,7 +26,8 @@ use Rattle.remainder.specs.Remainder.{bits, tableEntry}
 use Rattle.coding.specs.Coding.{cyclic, word}
 use Rattle.coding.specs.Table.{R, I}
 use Rattle.header.specs.declared.HeaderAnswer.the-variants.{Says}
-use Rattle.header.specs.Header.{headerRules, says}
+use Rattle.header.specs.Header.{lengthFits, statedEnd, headerRules, says, fileEnd}
+use Rattle.header.specs.End.{Above, LooksToEnd}
 use Rattle.header.specs.Sound.{HeaderSound}
 use Rattle.page.specs.declared.Layout.{Layout}
 use Rattle.page.specs.declared.Link.{Link}
@@ -46,7 +47,8 @@ use Rattle.tree.specs.Demand3.{AgreeOnPath, AgreeOnRead}
 use Rattle.tree.specs.Listing.{TreeLists}
 use Rattle.laws.specs.Front.{fronted}
 use Rattle.nodelist.specs.Places.{nodeWords, listRules}
-use Rattle.block.specs.Block.{trailer64, blockBytes}
+use Rattle.block.specs.declared.Trailer.{Trailer}
+use Rattle.block.specs.Block.{trailer64, roomFor, blockFits, blockBytes}
 use Rattle.block.specs.Sound.{BlockSound}
 use Rattle.block.specs.Tried.{testRules, readRules}
 use Rattle.node.specs.Named.{Named}
@@ -322,6 +324,38 @@ pub record FifthRequest : Type 0 where
   pub past-the-places : (block rows : List ℕ) (row n : ℕ) (area : List ℕ) → readRowOutcome block rows row area ≡ answered (n ∷ []) → drop (6 * n) (readRowArea block rows row area) ≡ drop (6 * n) area
   pub same-length : (block rows : List ℕ) (row n : ℕ) (area : List ℕ) → readRowOutcome block rows row area ≡ answered (n ∷ []) → length (readRowArea block rows row area) ≡ length area
   pub absent-leaves : (block rows : List ℕ) (row : ℕ) (area : List ℕ) → readRowOutcome block rows row area ≡ absent [] → readRowArea block rows row area ≡ area
+
+-- 6/13, "The file ends where the header says": of a call on an image
+pub record EndOfFile (call : List ℕ → Meaning) : Type 0 where
+  -- bytes that hang on behind the header's end change nothing of its answer, where both lengths are in the bounds of refusal 1 or neither is
+  pub looks : LooksToEnd call
+  -- what the header call is refused with, it is refused with: 1 at place 0 too, the one thing that hanging bytes may bring
+  pub header-first : (image : List ℕ) (r : Refusal) → headerOutcome image ≡ refusalMeans r → call image ≡ refusalMeans r
+
+pub record SixthRequest : Type 0 where
+  -- "A header number above the image length is refused with 1 and place 184, after the encoding test": exactly when all that is tested before holds
+  pub above : (image : List ℕ) → (headerOutcome image ≡ refused 1 184 0) ↔ Above image
+  -- a length outside its bounds is refused with 1 and place 0
+  pub out-of-bounds : (image : List ℕ) → lengthFits image ≡ false → headerOutcome image ≡ refused 1 0 0
+  -- "pages and blocks must end at or before both it and the image's end, else 6 or 13", over any layout and any trailer
+  pub both-ends : (image : List ℕ) (n : ℕ) → (n ≤ fileEnd image) ↔ ((n ≤ statedEnd image) × (n ≤ length image))
+  pub page-behind : (L : Layout) (image : List ℕ) (p : Link) → fileEnd image < p .offset + 512 → pageFits L image p ≡ Refused (PageOffset at p .offset)
+  pub block-behind : (t : Trailer) (image : List ℕ) (b : Listed) → fileEnd image < b .offset + roomFor t (b .size) → blockFits t image b ≡ Refused (BlockOffset at b .offset)
+  -- every call on an image
+  pub header : EndOfFile headerOutcome
+  pub check-nodes : EndOfFile nodesOutcome
+  pub check-blocks : EndOfFile blocksOutcome
+  pub find-node : (node : ℕ) → EndOfFile (λ image. nodeOutcome image node)
+  pub find-block : (block : ℕ) → EndOfFile (λ image. blockOutcome image block)
+  pub next-node : (from : ℕ) → EndOfFile (λ image. nextNodeOutcome image from)
+  pub next-block : (from : ℕ) → EndOfFile (λ image. nextBlockOutcome image from)
+  pub test-block : (block : ℕ) → EndOfFile (λ image. testOutcome image block)
+  pub read-block : (block : ℕ) (out : List ℕ) → EndOfFile (λ image. readOutcome image block out)
+  pub read-node : (node : ℕ) (out : List ℕ) → EndOfFile (λ image. dataOutcome image node out)
+  -- and what stands in the buffers at exit; whether a list of nodes is taken is no matter of the image
+  pub find-nodes-area : (nodes area : List ℕ) → LooksToEnd (λ image. listArea image nodes area)
+  pub read-block-buffer : (block : ℕ) (out : List ℕ) → LooksToEnd (λ image. readBuffer image block out)
+  pub read-node-buffer : (node : ℕ) (out : List ℕ) → LooksToEnd (λ image. dataBuffer image node out)
 
 -- Beyond the demands: the listings of one tree. The entry or absent, with some count
 pub record FirstFrom (says : Answer (List ℕ) → Meaning) (outcome : Meaning) (entry : Option (List ℕ)) : Type 0 where

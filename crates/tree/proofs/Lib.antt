@@ -11,3 +11,4 @@ pub mod OffPath
 pub mod InOrder
 pub mod BitZero
 pub mod KeyFaults
+pub mod EndLaws
