@@ -1,4 +1,4 @@
--- The user's three demands, of the outcomes of the public calls alone; and what the requests of 02 add to them, of those outcomes and of pages. Assumes nothing: these are definitions.
+-- The user's three demands, of the outcomes of the public calls alone; and what the requests of 02 add to them, of those outcomes, of pages and of blocks. Assumes nothing: these are definitions.
 --
 -- The contract of a call says: what the answer means is the outcome that pst/specs/Outcomes names, and each buffer at exit is the one named there. What holds of every
 -- outcome so holds of every call. Proved in pst/proofs/FirstDemand, SecondDemand, ThirdDemand, FirstRequest, SecondRequest, ThirdRequest, FourthRequest, FifthRequest and SixthRequest.

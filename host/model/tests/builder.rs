@@ -16,6 +16,13 @@ fn assert_read_back(built: &Built) {
         model::header(image).map(|header| (header.method, header.end)),
         Ok((built.method, image.len() as u64))
     );
+    assert_nodes_read_back(built);
+    assert_blocks_read_back(built);
+    built.heaps.values().for_each(assert_heap);
+}
+
+fn assert_nodes_read_back(built: &Built) {
+    let image = &built.image;
     for node in &built.nodes {
         let number = u64::from(node.node) | 5 << 32;
         assert_eq!(
@@ -30,6 +37,10 @@ fn assert_read_back(built: &Built) {
         );
         assert_eq!(out, data);
     }
+}
+
+fn assert_blocks_read_back(built: &Built) {
+    let image = &built.image;
     for placed in &built.blocks {
         let listed = Block {
             block: placed.number,
@@ -49,7 +60,6 @@ fn assert_read_back(built: &Built) {
         );
         assert_eq!(out, placed.data);
     }
-    built.heaps.values().for_each(assert_heap);
 }
 
 fn assert_heap(heap: &PlacedHeap) {
