@@ -51,3 +51,39 @@ fn blocks_of_a_real_file() {
     }
     assert_eq!(find_block(&image, 0x74), Err(Refusal::new(7, 0x5400)));
 }
+
+fn data(name: &str) -> Vec<u8> {
+    let folder = concat!(env!("CARGO_MANIFEST_DIR"), "/../../crates/vectors/data/");
+    fs::read(format!("{folder}{name}")).expect("a file of the worked examples")
+}
+
+fn listed(name: &str) -> Vec<u8> {
+    let text = String::from_utf8(data(name)).expect("hexadecimal text");
+    let bytes = text.split_whitespace();
+    bytes
+        .map(|digits| u8::from_str_radix(digits, 16).expect("a byte"))
+        .collect()
+}
+
+/// The header says where the whole file ended, behind the bytes that are there; the copy, which ends with
+/// them, differs in the end-of-file number and the two checksums of the header alone.
+fn assert_ended(cut: &[u8], ended: &[u8]) {
+    assert_eq!(header(cut), Err(Refusal::new(1, 184)));
+    let header = header(ended).expect("a header");
+    assert_eq!(header.end, ended.len() as u64);
+    assert_eq!(cut.len(), ended.len());
+    let changed = |at: &usize| cut[*at] != ended[*at];
+    let places = (0..cut.len()).filter(changed);
+    for at in places {
+        let may_change = [4..8, 184..192, 524..528];
+        assert!(may_change.iter().any(|range| range.contains(&at)), "{at}");
+    }
+}
+
+#[test]
+fn parts_of_real_files_end_where_they_were_cut() {
+    let ended = data("real_mini_ended.img");
+    assert_eq!(ended, image());
+    assert_ended(&data("real_mini_64bit.img"), &ended);
+    assert_ended(&listed("3.2_header.hex"), &listed("3.2_header_ended.hex"));
+}
