@@ -1,5 +1,6 @@
+use mathlib.Core.Path.{_≡_}
 use native.Mathlib.Omega.{arith}
-use Rattle.block.specs.Block.{placeFits}
+use Rattle.block.specs.Block.{roomFor, placeFits}
 use Rattle.block.proofs.BlockLaws.{too-large}
 use borrow.Author.Needs.{needs}
 use Rattle.block.proofs.place_fits.Statement.{statement}
@@ -12,7 +13,10 @@ returns c =
 
 returns-2 : tie.Need-returns-2
 unfolding placeFits
-returns-2 c = rw (c .ends-by .ensures, c .before .file-end .ensures, c .before .before .room-for .ensures)
+returns-2 c =
+    let a = c .before .before .before .before .before .before .before .args in
+    let room : c .before .before .room-for .result ≡ roomFor (a .t) (a .b .size) = c .before .before .room-for .ensures in
+    rw (c .ends-by .ensures, c .before .file-end .ensures, room)
 
 pub place-fits-spec : {M : Type 1} → statement M
 place-fits-spec =
