@@ -1,12 +1,9 @@
 -- A page is tested alike in images that are alike to the file's end, and is the same there where it is accepted. Assumes nothing.
-use Prim.Native.Nat.{ℕ, _+_, _%_, _≤_, _<_}
+use Prim.Native.Nat.{ℕ, _+_, _≤_, _<_}
 use mathlib.Core.Path.{_≡_, refl, sym, ap, _∙_}
-use mathlib.Core.Bool.{Bool, true, false, _&&_}
+use mathlib.Core.Bool.{Bool, true, false}
 use mathlib.Core.List.{List}
 use native.Mathlib.Omega.{arith}
-use lib.Dec.{leb, eqb}
-use borrow.Author.Tests.{leb-true}
-use Rattle.laws.proofs.Tests.{and-both}
 use Rattle.refusal.specs.declared.Fault.the-variants.{PageOffset}
 use Rattle.refusal.specs.declared.Verdict.the-variants.{Accepted, Refused}
 use Rattle.refusal.specs.Order.{_at_, inOrder}
@@ -16,13 +13,8 @@ use Rattle.header.proofs.EndLaws.{part-alike}
 use Rattle.page.specs.declared.Layout.{Layout}
 use Rattle.page.specs.declared.Link.{Link}
 use Rattle.page.specs.Page.{page, offsetFits, pageFits}
-use Rattle.page.proofs.PageLaws.{page-rules, page-ends, rules-agree}
+use Rattle.page.proofs.PageLaws.{offset-ends, page-rules, page-ends, rules-agree}
 use Rattle.page.proofs.Exactly.{page-exactly}
-
--- a page whose offset is allowed ends at or before the file's end
-offset-ends : (image : List ℕ) (offset : ℕ) → offsetFits image offset ≡ true → offset + 512 ≤ fileEnd image
-unfolding offsetFits
-offset-ends image offset e = leb-true (offset + 512) (fileEnd image) (and-both (eqb (offset % 64) 0 && leb 17408 offset) (leb (offset + 512) (fileEnd image)) e .1)
 
 module _ (L : Layout) (one other : List ℕ) (alike : AlikeToEnd one other) (p : Link) where
   offset-alike : offsetFits one (p .offset) ≡ offsetFits other (p .offset)

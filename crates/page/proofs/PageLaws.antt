@@ -68,13 +68,13 @@ ends-same offset size end h = by (leb size (end - offset)) refl
     by true e = let w = leb-true size (end - offset) e in sym (le-leb (offset + size) end (omega arith))
     by false e = let w = leb-false size (end - offset) e in sym (lt-leb (offset + size) end (omega arith))
 
--- a page whose offset is allowed lies in the image
-pub offset-inside : (image : List ℕ) (offset : ℕ) → offsetFits image offset ≡ true → offset + 512 ≤ length image
+-- a page whose offset is allowed ends at or before the file's end, and so lies in the image
+pub offset-ends : (image : List ℕ) (offset : ℕ) → offsetFits image offset ≡ true → offset + 512 ≤ fileEnd image
 unfolding offsetFits
-offset-inside image offset e =
-    le-trans
-    (leb-true (offset + 512) (fileEnd image) (and-both (eqb (offset % 64) 0 && leb 17408 offset) (leb (offset + 512) (fileEnd image)) e .1))
-    (end-inside image)
+offset-ends image offset e = leb-true (offset + 512) (fileEnd image) (and-both (eqb (offset % 64) 0 && leb 17408 offset) (leb (offset + 512) (fileEnd image)) e .1)
+
+pub offset-inside : (image : List ℕ) (offset : ℕ) → offsetFits image offset ≡ true → offset + 512 ≤ length image
+offset-inside image offset e = le-trans (offset-ends image offset e) (end-inside image)
 
 pub page-part : (image : List ℕ) (offset : ℕ) → take (offset + 512 - offset) (drop offset image) ≡ page image offset
 unfolding page

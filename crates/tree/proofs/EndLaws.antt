@@ -14,7 +14,7 @@ use Rattle.search.specs.Answer.{Answer, refused}
 use Rattle.search.specs.Descent.{descend}
 use Rattle.search.proofs.Checked.{under-refused}
 use Rattle.search.proofs.Steps.{step-refused}
-use Rattle.search.proofs.OffPath.{Same, check-same, search-same}
+use Rattle.search.proofs.OffPath.{check-same, search-same}
 use Rattle.header.specs.Header.{headerRules}
 use Rattle.header.specs.End.{AlikeToEnd}
 use Rattle.header.proofs.EndLaws.{header-alike}
@@ -29,14 +29,10 @@ use Rattle.tree.specs.Tree.{root, rootLevel, linkOf, pageTree, treeRules
 use Rattle.tree.specs.Lookup.{askedFor, searched, searchRules}
 use Rattle.tree.specs.Answers.{shown, asNode, nodeOf, asBlock, blockOf, nextNodeOf, nextBlockOf}
 use Rattle.tree.proofs.Walk.{test-is, tree-parts}
-use Rattle.tree.proofs.OffPath.{root-same}
+use Rattle.tree.proofs.OffPath.{Alike, root-same}
 
 module _ (L : Layout) (one other : List ℕ) (alike : AlikeToEnd one other) where
-  abbrev Alike : Link → Type 0
-  Alike = Same (keyIn L) (λ p. p .range) (λ l range e. linkOf L l range e) (λ l p. pageRules L one p) (λ l p. pageRules L other p)
-      (λ l p. entries L (page one (p .offset))) (λ l p. entries L (page other (p .offset)))
-
-  all-alike : (p : Link) → Alike p
+  all-alike : (p : Link) → Alike L one other p
   all-alike p =
       record {
         tested = λ l. sym (page-rules L one p) ∙ page-alike L one other alike p ∙ page-rules L other p;

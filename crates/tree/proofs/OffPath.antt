@@ -32,15 +32,16 @@ root-same L one other fair e =
       field-agrees one other (L .root + L .word) (L .word) e (omega (arith, fair .root)),
     )
 
-module _ (L : Layout) (one other : List ℕ) (ends : fileEnd one ≡ fileEnd other) where
-  abbrev Alike : Link → Type 0
-  Alike = Same (keyIn L) (λ p. p .range) (λ l range e. linkOf L l range e) (λ l p. pageRules L one p) (λ l p. pageRules L other p)
-      (λ l p. entries L (page one (p .offset))) (λ l p. entries L (page other (p .offset)))
+-- a page as a branch that is the same in both images
+abbrev pub Alike : Layout → List ℕ → List ℕ → Link → Type 0
+Alike L one other = Same (keyIn L) (λ p. p .range) (λ l range e. linkOf L l range e) (λ l p. pageRules L one p) (λ l p. pageRules L other p)
+    (λ l p. entries L (page one (p .offset))) (λ l p. entries L (page other (p .offset)))
 
-  alike : (p : Link) → page one (p .offset) ≡ page other (p .offset) → Alike p
+module _ (L : Layout) (one other : List ℕ) (ends : fileEnd one ≡ fileEnd other) where
+  alike : (p : Link) → page one (p .offset) ≡ page other (p .offset) → Alike L one other p
   alike p e = record { tested = λ l. ap inOrder (rules-agree L one other p ends e); kept = λ l t. ap (entries L) e }
 
-  all-alike : (ps : List Link) → All (λ offset. page one offset ≡ page other offset) (map (λ p. p .offset) ps) → All Alike ps
+  all-alike : (ps : List Link) → All (λ offset. page one offset ≡ page other offset) (map (λ p. p .offset) ps) → All (Alike L one other) ps
   all-alike [] a = tt
   all-alike (p ∷ ps) a = (alike p (a .0), all-alike ps (a .1))
 
