@@ -25,17 +25,14 @@ use Rattle.tree.specs.declared.Listed.{Listed}
 use Rattle.tree.specs.declared.FoundBlock.{FoundBlock}
 use Rattle.tree.specs.declared.FoundBlock.the-variants as block
 use Rattle.tree.specs.Answers.{blockOf}
-use Rattle.block.specs.declared.Trailer.{Trailer}
+use Rattle.edition.specs.declared.Trailer.{Trailer}
+use Rattle.edition.specs.declared.Edition.{Edition}
 use Rattle.block.specs.declared.Checked.{Checked}
 use Rattle.block.specs.declared.Checked.the-variants as checked
 use Rattle.block.specs.declared.Sized.the-variants as sized
 use Rattle.laws.specs.Front.{fronted}
-use Rattle.block.specs.Block.{trailer64, roomFor, stored, trailerOf, placeFits, trailerRules, blockRules, blockFits, testedBy, checkedBlock, sizeIn, internal, plain, blockBytes, fitting, readIn, readOf, filledIn, filledOf}
-use Rattle.block.specs.Sound.{FairTrailer}
-
-pub fair-trailer : FairTrailer trailer64
-unfolding trailer64
-fair-trailer = omega arith
+use Rattle.block.specs.Block.{roomFor, stored, trailerOf, placeFits, trailerRules, blockRules, blockFits, testedBy, checkedBlock, sizeIn, internal, plain, blockBytes, fitting, readIn, readOf, filledIn, filledOf}
+use Rattle.edition.specs.Fair.{FairTrailer}
 
 -- the room holds the data and the trailer, and is the smallest multiple of 64 that does
 pub room-holds : (t : Trailer) (size : ℕ) → size + t .length ≤ roomFor t size
@@ -106,73 +103,69 @@ pub block-inside : (t : Trailer) (image : List ℕ) (b : Listed) → blockFits t
 block-inside t image b e = omega (arith, room-inside t image b (accepted-placed t image b e), room-holds t (b .size))
 
 -- what was found, and then tested
-module _ (image : List ℕ) (f : FoundBlock) where
+module _ (t : Trailer) (image : List ℕ) (f : FoundBlock) where
   abbrev tested : Checked
-  tested = testedBy (blockFits trailer64 image) f
+  tested = testedBy (blockFits t image) f
 
-  pub tested-accepted : (b : Listed) (n : ℕ) (t : Trailer) (v : Verdict) → f ≡ block.Found b n → t ≡ trailer64 → v ≡ blockFits t image b → v ≡ Accepted
-      → checked.Block b ≡ tested
+  pub tested-accepted : (b : Listed) (n : ℕ) (v : Verdict) → f ≡ block.Found b n → v ≡ blockFits t image b → v ≡ Accepted → checked.Block b ≡ tested
   unfolding testedBy
-  tested-accepted b n t v g w e q =
-      sym (ap (testedBy (blockFits trailer64 image)) g ∙ goes checked.Refused _ _ (sym (e ∙ ap (λ (x : Trailer). blockFits x image b) w) ∙ q))
+  tested-accepted b n v g e q = sym (ap (testedBy (blockFits t image)) g ∙ goes checked.Refused _ _ (sym e ∙ q))
 
-  pub tested-refused : (b : Listed) (n : ℕ) (t : Trailer) (v : Verdict) (r : Refusal) → f ≡ block.Found b n → t ≡ trailer64 → v ≡ blockFits t image b → v ≡ Refused r
-      → checked.Refused r ≡ tested
+  pub tested-refused : (b : Listed) (n : ℕ) (v : Verdict) (r : Refusal) → f ≡ block.Found b n → v ≡ blockFits t image b → v ≡ Refused r → checked.Refused r ≡ tested
   unfolding testedBy
-  tested-refused b n t v r g w e q =
-      sym (ap (testedBy (blockFits trailer64 image)) g ∙ ends checked.Refused _ _ r (sym (e ∙ ap (λ (x : Trailer). blockFits x image b) w) ∙ q))
+  tested-refused b n v r g e q = sym (ap (testedBy (blockFits t image)) g ∙ ends checked.Refused _ _ r (sym e ∙ q))
 
   pub unlisted : (n : ℕ) → f ≡ block.Absent n → checked.Refused (BlockUnlisted at 0) ≡ tested
   unfolding testedBy
-  unlisted n g = sym (ap (testedBy (blockFits trailer64 image)) g)
+  unlisted n g = sym (ap (testedBy (blockFits t image)) g)
 
   pub lookup-refused : (r : Refusal) → f ≡ block.Refused r → checked.Refused r ≡ tested
   unfolding testedBy
-  lookup-refused r g = sym (ap (testedBy (blockFits trailer64 image)) g)
+  lookup-refused r g = sym (ap (testedBy (blockFits t image)) g)
 
 pub unblock : (d b : Listed) → checked.Block d ≡ checked.Block b → d ≡ b
 unblock d b p = cc
 
 -- what a checked block tells
-checked-by : (image : List ℕ) (f : FoundBlock) (b : Listed) → testedBy (blockFits trailer64 image) f ≡ checked.Block b → blockFits trailer64 image b ≡ Accepted
+checked-by : (E : Edition) (image : List ℕ) (f : FoundBlock) (b : Listed) → testedBy (blockFits (E .trailer) image) f ≡ checked.Block b → blockFits (E .trailer) image b ≡ Accepted
 unfolding testedBy
-checked-by image (block.Found d n) b e = by (blockFits trailer64 image d) refl
+checked-by E image (block.Found d n) b e = by (blockFits (E .trailer) image d) refl
   where
-    by : (v : Verdict) → blockFits trailer64 image d ≡ v → blockFits trailer64 image b ≡ Accepted
-    by Accepted q = let same : d ≡ b = unblock d b (sym (goes checked.Refused _ _ q) ∙ e) in sym (ap (blockFits trailer64 image) same) ∙ q
+    by : (v : Verdict) → blockFits (E .trailer) image d ≡ v → blockFits (E .trailer) image b ≡ Accepted
+    by Accepted q = let same : d ≡ b = unblock d b (sym (goes checked.Refused _ _ q) ∙ e) in sym (ap (blockFits (E .trailer) image) same) ∙ q
     by (Refused r) q = let other = ends checked.Refused _ (checked.Block d) r q in cc
-checked-by image (block.Absent n) b e = cc
-checked-by image (block.Refused r) b e = cc
+checked-by E image (block.Absent n) b e = cc
+checked-by E image (block.Refused r) b e = cc
 
-pub checked-fits : (image : List ℕ) (number : ℕ) (b : Listed) → checkedBlock image number ≡ checked.Block b → blockFits trailer64 image b ≡ Accepted
+pub checked-fits : (E : Edition) (image : List ℕ) (number : ℕ) (b : Listed) → checkedBlock E image number ≡ checked.Block b → blockFits (E .trailer) image b ≡ Accepted
 unfolding checkedBlock
-checked-fits image number b e = checked-by image (blockOf image number) b e
+checked-fits E image number b e = checked-by E image (blockOf (E .blocks) image number) b e
 
 -- a checked block is the one that the lookup finds
-same-by : (image : List ℕ) (f : FoundBlock) (b d : Listed) (n : ℕ) → testedBy (blockFits trailer64 image) f ≡ checked.Block b → f ≡ block.Found d n → d ≡ b
+same-by : (E : Edition) (image : List ℕ) (f : FoundBlock) (b d : Listed) (n : ℕ) → testedBy (blockFits (E .trailer) image) f ≡ checked.Block b → f ≡ block.Found d n → d ≡ b
 unfolding testedBy
-same-by image f b d n e g = by (blockFits trailer64 image d) refl
+same-by E image f b d n e g = by (blockFits (E .trailer) image d) refl
   where
-    by : (v : Verdict) → blockFits trailer64 image d ≡ v → d ≡ b
-    by Accepted q = unblock d b (sym (ap (testedBy (blockFits trailer64 image)) g ∙ goes checked.Refused _ _ q) ∙ e)
-    by (Refused r) q = let other = ap (testedBy (blockFits trailer64 image)) g ∙ ends checked.Refused _ (checked.Block d) r q in cc
+    by : (v : Verdict) → blockFits (E .trailer) image d ≡ v → d ≡ b
+    by Accepted q = unblock d b (sym (ap (testedBy (blockFits (E .trailer) image)) g ∙ goes checked.Refused _ _ q) ∙ e)
+    by (Refused r) q = let other = ap (testedBy (blockFits (E .trailer) image)) g ∙ ends checked.Refused _ (checked.Block d) r q in cc
 
-pub checked-same : (image : List ℕ) (number : ℕ) (b d : Listed) (n : ℕ) → checkedBlock image number ≡ checked.Block b → blockOf image number ≡ block.Found d n → d ≡ b
+pub checked-same : (E : Edition) (image : List ℕ) (number : ℕ) (b d : Listed) (n : ℕ) → checkedBlock E image number ≡ checked.Block b → blockOf (E .blocks) image number ≡ block.Found d n → d ≡ b
 unfolding checkedBlock
-checked-same image number b d n e g = same-by image (blockOf image number) b d n e g
+checked-same E image number b d n e g = same-by E image (blockOf (E .blocks) image number) b d n e g
 
-pub checked-not-absent : (image : List ℕ) (number : ℕ) (b : Listed) (n : ℕ) → checkedBlock image number ≡ checked.Block b → blockOf image number ≡ block.Absent n → ⊥
+pub checked-not-absent : (E : Edition) (image : List ℕ) (number : ℕ) (b : Listed) (n : ℕ) → checkedBlock E image number ≡ checked.Block b → blockOf (E .blocks) image number ≡ block.Absent n → ⊥
 unfolding checkedBlock
-checked-not-absent image number b n e g =
-    let other = unlisted image (blockOf image number) n g in let clash : _≡_ {A = ℕ} 0 1 = cc in omega arith
+checked-not-absent E image number b n e g =
+    let other = unlisted (E .trailer) image (blockOf (E .blocks) image number) n g in let clash : _≡_ {A = ℕ} 0 1 = cc in omega arith
 
-pub checked-not-refused : (image : List ℕ) (number : ℕ) (b : Listed) (r : Refusal) → checkedBlock image number ≡ checked.Block b → blockOf image number ≡ block.Refused r → ⊥
+pub checked-not-refused : (E : Edition) (image : List ℕ) (number : ℕ) (b : Listed) (r : Refusal) → checkedBlock E image number ≡ checked.Block b → blockOf (E .blocks) image number ≡ block.Refused r → ⊥
 unfolding checkedBlock
-checked-not-refused image number b r e g =
-    let other = lookup-refused image (blockOf image number) r g in let clash : _≡_ {A = ℕ} 0 1 = cc in omega arith
+checked-not-refused E image number b r e g =
+    let other = lookup-refused (E .trailer) image (blockOf (E .blocks) image number) r g in let clash : _≡_ {A = ℕ} 0 1 = cc in omega arith
 
-pub checked-inside : (image : List ℕ) (number : ℕ) (b : Listed) → checkedBlock image number ≡ checked.Block b → b .offset + b .size ≤ length image
-checked-inside image number b e = block-inside trailer64 image b (checked-fits image number b e)
+pub checked-inside : (E : Edition) (image : List ℕ) (number : ℕ) (b : Listed) → checkedBlock E image number ≡ checked.Block b → b .offset + b .size ≤ length image
+checked-inside E image number b e = block-inside (E .trailer) image b (checked-fits E image number b e)
 
 -- decoding keeps the length
 pub plain-length : (method number : ℕ) (s : List ℕ) → length (plain method number s) ≡ length s
@@ -196,25 +189,25 @@ pub short-space : (size space : ℕ) → space < size → sized.Refused (ShortBu
 unfolding fitting
 short-space size space h = rw (lt-leb size space h)
 
-pub checked-large : (image : List ℕ) (number : ℕ) (b : Listed) → checkedBlock image number ≡ checked.Block b → 564 ≤ length image
-checked-large image number b e =
-    let ok = accepted-placed trailer64 image b (checked-fits image number b e) in
-    omega (arith, leb-true 17408 (b .offset) (placed-of trailer64 image b ok .least), room-inside trailer64 image b ok)
+pub checked-large : (E : Edition) (image : List ℕ) (number : ℕ) (b : Listed) → checkedBlock E image number ≡ checked.Block b → 564 ≤ length image
+checked-large E image number b e =
+    let ok = accepted-placed (E .trailer) image b (checked-fits E image number b e) in
+    omega (arith, leb-true 17408 (b .offset) (placed-of (E .trailer) image b ok .least), room-inside (E .trailer) image b ok)
 
 -- the outcome of a read: refused by the tests, refused for the buffer, or done
-module _ (image : List ℕ) (number : ℕ) (out : List ℕ) where
-  pub read-ends : (r : Refusal) → checkedBlock image number ≡ checked.Refused r
-      → (sized.Refused r ≡ readOf image number (length out)) × (out ≡ filledOf image number out)
+module _ (E : Edition) (image : List ℕ) (number : ℕ) (out : List ℕ) where
+  pub read-ends : (r : Refusal) → checkedBlock E image number ≡ checked.Refused r
+      → (sized.Refused r ≡ readOf E image number (length out)) × (out ≡ filledOf E image number out)
   unfolding readOf readIn filledOf filledIn
   read-ends r e = (rw e, rw e)
 
-  pub read-short : (b : Listed) → checkedBlock image number ≡ checked.Block b → length out < b .size
-      → (sized.Refused (ShortBuffer needing b .size) ≡ readOf image number (length out)) × (out ≡ filledOf image number out)
+  pub read-short : (b : Listed) → checkedBlock E image number ≡ checked.Block b → length out < b .size
+      → (sized.Refused (ShortBuffer needing b .size) ≡ readOf E image number (length out)) × (out ≡ filledOf E image number out)
   unfolding readOf readIn filledOf filledIn
   read-short b e h = (rw e (short-space (b .size) (length out) h), rw (e, lt-leb (b .size) (length out) h))
 
-  pub read-fills : (b : Listed) → checkedBlock image number ≡ checked.Block b → b .size ≤ length out
-      → (sized.Size (b .size) ≡ readOf image number (length out)) × (fronted (blockBytes image b) out ≡ filledOf image number out)
+  pub read-fills : (b : Listed) → checkedBlock E image number ≡ checked.Block b → b .size ≤ length out
+      → (sized.Size (b .size) ≡ readOf E image number (length out)) × (fronted (blockBytes image b) out ≡ filledOf E image number out)
   unfolding readOf readIn filledOf filledIn
   read-fills b e h = (rw e (fits-space (b .size) (length out) h), rw (e, le-leb (b .size) (length out) h))
 
@@ -222,6 +215,5 @@ pub size-of-refused : (c : Checked) (r : Refusal) → c ≡ checked.Refused r �
 unfolding sizeIn
 size-of-refused c r e = rw e
 
-pub checked-size : (image : List ℕ) (number : ℕ) (b : Listed) → checkedBlock image number ≡ checked.Block b → b .size ≤ 8176
-unfolding trailer64
-checked-size image number b e = placed-of trailer64 image b (accepted-placed trailer64 image b (checked-fits image number b e)) .few
+pub checked-size : (E : Edition) (image : List ℕ) (number : ℕ) (b : Listed) → checkedBlock E image number ≡ checked.Block b → b .size ≤ E .trailer .most
+checked-size E image number b e = placed-of (E .trailer) image b (accepted-placed (E .trailer) image b (checked-fits E image number b e)) .few

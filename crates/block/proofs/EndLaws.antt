@@ -18,17 +18,18 @@ use Rattle.keys.specs.declared.Sought.the-variants.{Equal}
 use Rattle.header.specs.Header.{headerRules, fileEnd}
 use Rattle.header.specs.End.{AlikeToEnd}
 use Rattle.header.proofs.EndLaws.{part-alike, method-alike}
-use Rattle.page.specs.Layout.{bbt}
 use Rattle.tree.specs.declared.Listed.{Listed}
 use Rattle.tree.specs.declared.FoundBlock.{FoundBlock}
 use Rattle.tree.specs.declared.FoundBlock.the-variants as block
 use Rattle.tree.specs.Lookup.{searchRules}
 use Rattle.tree.specs.Answers.{blockOf}
 use Rattle.tree.proofs.EndLaws.{block-alike, search-first}
-use Rattle.block.specs.declared.Trailer.{Trailer}
+use Rattle.edition.specs.declared.Trailer.{Trailer}
+use Rattle.edition.specs.declared.Edition.{Edition}
+use Rattle.edition.specs.Fair.{FairEdition}
 use Rattle.block.specs.declared.Checked.{Checked}
 use Rattle.block.specs.declared.Checked.the-variants as checked
-use Rattle.block.specs.Block.{trailer64, roomFor, stored, trailerOf, placeFits, trailerRules, blockFits, testedBy, checkedBlock, sizeIn, testOf, plain, blockBytes, readIn, readOf, filledIn, filledOf}
+use Rattle.block.specs.Block.{roomFor, stored, trailerOf, placeFits, trailerRules, blockFits, testedBy, checkedBlock, sizeIn, testOf, plain, blockBytes, readIn, readOf, filledIn, filledOf}
 use Rattle.block.specs.Tried.{testRules, readRules}
 use Rattle.block.proofs.BlockLaws.{room-holds, placed-of, block-ends, block-goes, accepted-placed, checked-fits}
 
@@ -63,49 +64,50 @@ module _ (one other : List ℕ) (alike : AlikeToEnd one other) where
     part-of-block e =
         part-alike one other alike (b .offset) (b .size) (omega (arith, placed-of t one b (accepted-placed t one b e) .ends, room-holds t (b .size)))
 
-  tested-alike : (f : FoundBlock) → testedBy (blockFits trailer64 one) f ≡ testedBy (blockFits trailer64 other) f
+module _ (E : Edition) (fair : FairEdition E) (one other : List ℕ) (alike : AlikeToEnd one other) where
+  tested-alike : (f : FoundBlock) → testedBy (blockFits (E .trailer) one) f ≡ testedBy (blockFits (E .trailer) other) f
   unfolding testedBy
-  tested-alike (block.Found b n) = ap (λ (v : Verdict). after checked.Refused v (checked.Block b)) (test-alike trailer64 b)
+  tested-alike (block.Found b n) = ap (λ (v : Verdict). after checked.Refused v (checked.Block b)) (test-alike one other alike (E .trailer) b)
   tested-alike (block.Absent n) = refl
   tested-alike (block.Refused r) = refl
 
-  pub checked-alike : (number : ℕ) → checkedBlock one number ≡ checkedBlock other number
+  pub checked-alike : (number : ℕ) → checkedBlock E one number ≡ checkedBlock E other number
   unfolding checkedBlock
-  checked-alike number = tested-alike (blockOf one number) ∙ ap (testedBy (blockFits trailer64 other)) (block-alike one other alike number)
+  checked-alike number = tested-alike (blockOf (E .blocks) one number) ∙ ap (testedBy (blockFits (E .trailer) other)) (block-alike (E .blocks) (fair .blocks) one other alike number)
 
-  pub stored-same : (number : ℕ) (b : Listed) → checkedBlock one number ≡ checked.Block b → part one (b .offset) (b .size) ≡ part other (b .offset) (b .size)
-  stored-same number b e = part-of-block trailer64 b (checked-fits one number b e)
+  pub stored-same : (number : ℕ) (b : Listed) → checkedBlock E one number ≡ checked.Block b → part one (b .offset) (b .size) ≡ part other (b .offset) (b .size)
+  stored-same number b e = part-of-block one other alike (E .trailer) b (checked-fits E one number b e)
 
-  pub bytes-same : (number : ℕ) (b : Listed) → checkedBlock one number ≡ checked.Block b → blockBytes one b ≡ blockBytes other b
+  pub bytes-same : (number : ℕ) (b : Listed) → checkedBlock E one number ≡ checked.Block b → blockBytes one b ≡ blockBytes other b
   unfolding blockBytes
   bytes-same number b e = ap₂ (λ (method : ℕ) (s : List ℕ). plain method (b .block) s) (method-alike one other alike) (stored-same number b e)
 
   -- the calls
-  pub sized-alike : (number : ℕ) → testOf one number ≡ testOf other number
+  pub sized-alike : (number : ℕ) → testOf E one number ≡ testOf E other number
   unfolding testOf
   sized-alike number = ap sizeIn (checked-alike number)
 
-  pub read-alike : (number space : ℕ) → readOf one number space ≡ readOf other number space
+  pub read-alike : (number space : ℕ) → readOf E one number space ≡ readOf E other number space
   unfolding readOf
   read-alike number space = ap (λ (c : Checked). readIn c space) (checked-alike number)
 
-  pub filled-alike : (number : ℕ) (out : List ℕ) → filledOf one number out ≡ filledOf other number out
+  pub filled-alike : (number : ℕ) (out : List ℕ) → filledOf E one number out ≡ filledOf E other number out
   unfolding filledOf filledIn
-  filled-alike number out = by (checkedBlock one number) refl ∙ ap (λ (c : Checked). filledIn other c out) (checked-alike number)
+  filled-alike number out = by (checkedBlock E one number) refl ∙ ap (λ (c : Checked). filledIn other c out) (checked-alike number)
     where
-      by : (c : Checked) → checkedBlock one number ≡ c → filledIn one c out ≡ filledIn other c out
+      by : (c : Checked) → checkedBlock E one number ≡ c → filledIn one c out ≡ filledIn other c out
       by (checked.Block b) e = ap (λ (s : List ℕ). cond (leb (b .size) (length out)) (fronted s out) out) (bytes-same number b e)
       by (checked.Refused r) e = refl
 
 -- what the header is refused with, a test and a read of a block are refused with
-module _ (image : List ℕ) (r : Refusal) (first : FirstFault (headerRules image) r) (number : ℕ) where
-  pub test-first : FirstFault (testRules image number) r
+module _ (E : Edition) (image : List ℕ) (r : Refusal) (first : FirstFault (headerRules image) r) (number : ℕ) where
+  pub test-first : FirstFault (testRules E image number) r
   unfolding testRules
-  test-first = fault-left (searchRules Equal bbt image number) _ r (search-first bbt image r first Equal number)
+  test-first = fault-left (searchRules Equal (E .blocks) image number) _ r (search-first (E .blocks) image r first Equal number)
 
-  pub read-first : (space : ℕ) → FirstFault (readRules image number space) r
+  pub read-first : (space : ℕ) → FirstFault (readRules E image number space) r
   unfolding readRules
-  read-first space = fault-left (testRules image number) _ r test-first
+  read-first space = fault-left (testRules E image number) _ r test-first
 
 -- a block whose room passes the file's end is refused with 13, whatever its bytes
 pub block-behind : (t : Trailer) (image : List ℕ) (b : Listed) → fileEnd image < b .offset + roomFor t (b .size) → blockFits t image b ≡ Refused (BlockOffset at b .offset)

@@ -20,9 +20,10 @@ use Rattle.tree.specs.declared.Listed.{Listed}
 use Rattle.tree.specs.declared.FoundBlock.{FoundBlock}
 use Rattle.tree.specs.declared.FoundBlock.the-variants as block
 use Rattle.tree.specs.Answers.{blockOf}
+use Rattle.edition.specs.declared.Edition.{Edition}
 use Rattle.block.specs.declared.Checked.the-variants as checked
-use Rattle.block.specs.declared.Trailer.{Trailer}
-use Rattle.block.specs.Block.{trailer64, trailerOf, placeFits, trailerFits, sumFits, trailerRules, blockRules, blockFits, testedBy, checkedBlock}
+use Rattle.edition.specs.declared.Trailer.{Trailer}
+use Rattle.block.specs.Block.{trailerOf, placeFits, trailerFits, sumFits, trailerRules, blockRules, blockFits, testedBy, checkedBlock}
 use Rattle.block.specs.Sound.{BlockSound, ListedSound}
 use Rattle.block.proofs.BlockLaws.{placed-of, unblock}
 
@@ -69,23 +70,23 @@ unfolding blockFits
 block-first-fault t image b r = refused-exactly (blockRules t image b) r
 
 -- what was found passes its tests as the block b
-found-by : (image : List ℕ) (f : FoundBlock) (b : Listed) (P : Type 0) → testedBy (blockFits trailer64 image) f ≡ checked.Block b
-    → ((n : ℕ) → f ≡ block.Found b n → BlockSound trailer64 image b → P) → P
+found-by : (E : Edition) (image : List ℕ) (f : FoundBlock) (b : Listed) (P : Type 0) → testedBy (blockFits (E .trailer) image) f ≡ checked.Block b
+    → ((n : ℕ) → f ≡ block.Found b n → BlockSound (E .trailer) image b → P) → P
 unfolding testedBy
-found-by image (block.Found d n) b P e go = by (blockFits trailer64 image d) refl e
+found-by E image (block.Found d n) b P e go = by (blockFits (E .trailer) image d) refl e
   where
-    by : (v : Verdict) → blockFits trailer64 image d ≡ v → after checked.Refused v (checked.Block d) ≡ checked.Block b → P
+    by : (v : Verdict) → blockFits (E .trailer) image d ≡ v → after checked.Refused v (checked.Block d) ≡ checked.Block b → P
     by Accepted q z =
         let same : d ≡ b = unblock d b (sym (goes checked.Refused Accepted (checked.Block d) refl) ∙ z) in
-        go n (ap (λ (x : Listed). block.Found x n) same) (subst (BlockSound trailer64 image) same (block-exactly trailer64 image d .0 q))
+        go n (ap (λ (x : Listed). block.Found x n) same) (subst (BlockSound (E .trailer) image) same (block-exactly (E .trailer) image d .0 q))
     by (Refused r) q z = let other = ends checked.Refused (Refused r) (checked.Block d) r refl in let clash : _≡_ {A = ℕ} 0 1 = cc in absurd (omega arith)
-found-by image (block.Absent n) b P e go = let clash : _≡_ {A = ℕ} 0 1 = cc in absurd (omega arith)
-found-by image (block.Refused r) b P e go = let clash : _≡_ {A = ℕ} 0 1 = cc in absurd (omega arith)
+found-by E image (block.Absent n) b P e go = let clash : _≡_ {A = ℕ} 0 1 = cc in absurd (omega arith)
+found-by E image (block.Refused r) b P e go = let clash : _≡_ {A = ℕ} 0 1 = cc in absurd (omega arith)
 
 -- a number passes 12 to 15 exactly when the block tree lists it as a block whose rules hold
-pub checked-exactly : (image : List ℕ) (number : ℕ) (b : Listed) → (checkedBlock image number ≡ checked.Block b) ↔ ListedSound image number b
+pub checked-exactly : (E : Edition) (image : List ℕ) (number : ℕ) (b : Listed) → (checkedBlock E image number ≡ checked.Block b) ↔ ListedSound E image number b
 unfolding checkedBlock testedBy
-checked-exactly image number b = (
-  (λ e. found-by image (blockOf image number) b (ListedSound image number b) e (λ n f s. record { pages = n; found = f; sound = s })),
-  (λ h. ap (testedBy (blockFits trailer64 image)) (h .found) ∙ goes checked.Refused _ _ (block-exactly trailer64 image b .1 (h .sound))),
+checked-exactly E image number b = (
+  (λ e. found-by E image (blockOf (E .blocks) image number) b (ListedSound E image number b) e (λ n f s. record { pages = n; found = f; sound = s })),
+  (λ h. ap (testedBy (blockFits (E .trailer) image)) (h .found) ∙ goes checked.Refused _ _ (block-exactly (E .trailer) image b .1 (h .sound))),
 )

@@ -12,15 +12,15 @@ use Rattle.refusal.proofs.OrderLaws.{in-order-append}
 use Rattle.keys.specs.declared.Sought.the-variants.{Equal}
 use Rattle.search.specs.Answer.{Answer, found, absent, refused}
 use Rattle.search.proofs.Tried.{verdictOf}
-use Rattle.page.specs.Layout.{bbt}
 use Rattle.tree.specs.Lookup.{lookup, searchRules}
 use Rattle.tree.specs.Answers.{shown, asBlock, blockOf}
 use Rattle.tree.proofs.InOrder.{search-tried}
+use Rattle.edition.specs.declared.Edition.{Edition}
 use Rattle.block.specs.declared.Checked.{Checked}
 use Rattle.block.specs.declared.Checked.the-variants as checked
 use Rattle.block.specs.declared.Sized.{Sized}
 use Rattle.block.specs.declared.Sized.the-variants as sized
-use Rattle.block.specs.Block.{trailer64, blockFits, testedBy, checkedBlock, sizeIn, testOf, fitting, readIn, readOf}
+use Rattle.block.specs.Block.{blockFits, testedBy, checkedBlock, sizeIn, testOf, fitting, readIn, readOf}
 use Rattle.block.specs.Tried.{listedRules, testRules, spaceRules, readRules}
 
 -- the refusal of an answer, if it is one
@@ -42,23 +42,23 @@ unfolding verdictIn sizedVerdict sizeIn
 size-same (checked.Block b) = refl
 size-same (checked.Refused r) = refl
 
-module _ (image : List ℕ) where
-  found-tried : (a : Answer (List ℕ)) → (verdictOf a then inOrder (listedRules image (asBlock (shown bbt a)))) ≡ verdictIn (testedBy (blockFits trailer64 image) (asBlock (shown bbt a)))
+module _ (E : Edition) (image : List ℕ) where
+  found-tried : (a : Answer (List ℕ)) → (verdictOf a then inOrder (listedRules E image (asBlock (shown (E .blocks) a)))) ≡ verdictIn (testedBy (blockFits (E .trailer) image) (asBlock (shown (E .blocks) a)))
   unfolding verdictOf verdictIn shown asBlock testedBy listedRules blockFits after inOrder demand
-  found-tried (found e n) = after-verdict (blockFits trailer64 image _) (checked.Block _) refl
+  found-tried (found e n) = after-verdict (blockFits (E .trailer) image _) (checked.Block _) refl
   found-tried (absent n) = refl
   found-tried (refused r) = refl
 
-  pub test-tried : (number : ℕ) → inOrder (testRules image number) ≡ verdictIn (checkedBlock image number)
+  pub test-tried : (number : ℕ) → inOrder (testRules E image number) ≡ verdictIn (checkedBlock E image number)
   unfolding testRules checkedBlock blockOf
   test-tried number =
-      in-order-append (searchRules Equal bbt image number) (listedRules image (blockOf image number))
-      ∙ ap (λ v. v then inOrder (listedRules image (blockOf image number))) (search-tried Equal bbt image number)
-      ∙ found-tried (lookup bbt image number)
+      in-order-append (searchRules Equal (E .blocks) image number) (listedRules E image (blockOf (E .blocks) image number))
+      ∙ ap (λ v. v then inOrder (listedRules E image (blockOf (E .blocks) image number))) (search-tried Equal (E .blocks) image number)
+      ∙ found-tried (lookup (E .blocks) image number)
 
-  pub size-tried : (number : ℕ) → inOrder (testRules image number) ≡ sizedVerdict (testOf image number)
+  pub size-tried : (number : ℕ) → inOrder (testRules E image number) ≡ sizedVerdict (testOf E image number)
   unfolding testOf
-  size-tried number = test-tried number ∙ size-same (checkedBlock image number)
+  size-tried number = test-tried number ∙ size-same (checkedBlock E image number)
 
   space-tried : (c : Checked) (space : ℕ) → (verdictIn c then inOrder (spaceRules c space)) ≡ sizedVerdict (readIn c space)
   unfolding verdictIn spaceRules readIn fitting sizedVerdict after inOrder demand
@@ -69,9 +69,9 @@ module _ (image : List ℕ) where
       by false = refl
   space-tried (checked.Refused r) space = refl
 
-  pub read-tried : (number space : ℕ) → inOrder (readRules image number space) ≡ sizedVerdict (readOf image number space)
+  pub read-tried : (number space : ℕ) → inOrder (readRules E image number space) ≡ sizedVerdict (readOf E image number space)
   unfolding readRules readOf
   read-tried number space =
-      in-order-append (testRules image number) (spaceRules (checkedBlock image number) space)
-      ∙ ap (λ v. v then inOrder (spaceRules (checkedBlock image number) space)) (test-tried number)
-      ∙ space-tried (checkedBlock image number) space
+      in-order-append (testRules E image number) (spaceRules (checkedBlock E image number) space)
+      ∙ ap (λ v. v then inOrder (spaceRules (checkedBlock E image number) space)) (test-tried number)
+      ∙ space-tried (checkedBlock E image number) space

@@ -18,22 +18,23 @@ use Rattle.tree.specs.declared.Listed.{Listed}
 use Rattle.tree.specs.declared.FoundBlock.{FoundBlock}
 use Rattle.tree.specs.declared.FoundBlock.the-variants as block
 use Rattle.tree.specs.Answers.{blockOf}
-use Rattle.block.specs.declared.Trailer.{Trailer}
+use Rattle.edition.specs.declared.Trailer.{Trailer}
+use Rattle.edition.specs.declared.Edition.{Edition}
+use Rattle.edition.specs.Editions.{trailer64, trailer32}
 use Rattle.block.specs.declared.Checked.{Checked}
 use Rattle.block.specs.declared.Checked.the-variants as checked
 use Rattle.block.specs.declared.Sized.{Sized}
 use Rattle.block.specs.declared.Sized.the-variants as sized
 
--- "The trailer is the room's last 16 bytes: size 2, signature 2, checksum 4, number 8." "size 1 to 8,176"
-unfoldable pub trailer64 : Trailer
-trailer64 = record { length = 16; checksum = 4; number = 8; word = 8; most = 8176 }
-
--- "the smallest multiple of 64 that holds size + 16"
+-- "the smallest multiple of 64 that holds size + 16"; 02, 7/13: "trailers of 12 bytes"
 unfoldable pub roomFor : Trailer → ℕ → ℕ
 roomFor t size = (size + t .length + 63) / 64 * 64
 
 unfoldable pub room : ℕ → ℕ
 room size = roomFor trailer64 size
+
+unfoldable pub room32 : ℕ → ℕ
+room32 size = roomFor trailer32 size
 
 -- 14: "size and number equal the BBT entry's, signature right", of a trailer's bytes. 02, 1/13: the number with bit 0 cleared on both sides; "Signature and cyclic key use the number as stored in the BBT leaf entry"
 unfoldable pub trailerFits : Trailer → Listed → List ℕ → Bool
@@ -59,7 +60,7 @@ module _ (t : Trailer) (image : List ℕ) (b : Listed) where
   unfoldable pub trailerOf : List ℕ
   trailerOf = part image (b .offset + (roomFor t (b .size) - t .length)) (t .length)
 
-  -- 13: "size 1 to 8,176, offset a multiple of 64, at least 17,408, room inside the image"
+  -- 13: "size 1 to 8,176 (7/13: or 8,180), offset a multiple of 64, at least 17,408, room inside the image"
   unfoldable pub placeFits : Bool
   placeFits =
       leb 1 (b .size) && leb (b .size) (t .most) && eqb (b .offset % 64) 0 && leb 17408 (b .offset)
@@ -77,16 +78,16 @@ testedBy fits (block.Found b n) = after checked.Refused (fits b) (checked.Block 
 testedBy fits (block.Absent n) = checked.Refused (BlockUnlisted at 0)
 testedBy fits (block.Refused r) = checked.Refused r
 
-unfoldable pub checkedBlock : List ℕ → ℕ → Checked
-checkedBlock image number = testedBy (blockFits trailer64 image) (blockOf image number)
+unfoldable pub checkedBlock : Edition → List ℕ → ℕ → Checked
+checkedBlock E image number = testedBy (blockFits (E .trailer) image) (blockOf (E .blocks) image number)
 
 -- the outcome of the block test: its size, or the refusal
 unfoldable pub sizeIn : Checked → Sized
 sizeIn (checked.Block b) = sized.Size (b .size)
 sizeIn (checked.Refused r) = sized.Refused r
 
-unfoldable pub testOf : List ℕ → ℕ → Sized
-testOf image number = sizeIn (checkedBlock image number)
+unfoldable pub testOf : Edition → List ℕ → ℕ → Sized
+testOf E image number = sizeIn (checkedBlock E image number)
 
 -- "Bit 1 (value 2) of a block number marks an internal block. Internal blocks are never encoded; all others are, by the header's method."
 unfoldable pub internal : ℕ → Bool
@@ -108,13 +109,13 @@ unfoldable pub readIn : Checked → ℕ → Sized
 readIn (checked.Block b) space = fitting (b .size) space
 readIn (checked.Refused r) space = sized.Refused r
 
-unfoldable pub readOf : List ℕ → ℕ → ℕ → Sized
-readOf image number space = readIn (checkedBlock image number) space
+unfoldable pub readOf : Edition → List ℕ → ℕ → ℕ → Sized
+readOf E image number space = readIn (checkedBlock E image number) space
 
 -- and the buffer at exit: the block's bytes at its front, or as it was
 unfoldable pub filledIn : List ℕ → Checked → List ℕ → List ℕ
 filledIn image (checked.Block b) out = cond (leb (b .size) (length out)) (fronted (blockBytes image b) out) out
 filledIn image (checked.Refused r) out = out
 
-unfoldable pub filledOf : List ℕ → ℕ → List ℕ → List ℕ
-filledOf image number out = filledIn image (checkedBlock image number) out
+unfoldable pub filledOf : Edition → List ℕ → ℕ → List ℕ → List ℕ
+filledOf E image number out = filledIn image (checkedBlock E image number) out

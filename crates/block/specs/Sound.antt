@@ -10,8 +10,9 @@ use Rattle.page.specs.Page.{signature}
 use Rattle.tree.specs.declared.Listed.{Listed}
 use Rattle.tree.specs.declared.FoundBlock.the-variants.{Found}
 use Rattle.tree.specs.Answers.{blockOf}
-use Rattle.block.specs.declared.Trailer.{Trailer}
-use Rattle.block.specs.Block.{trailer64, roomFor, stored, trailerOf}
+use Rattle.edition.specs.declared.Trailer.{Trailer}
+use Rattle.edition.specs.declared.Edition.{Edition}
+use Rattle.block.specs.Block.{roomFor, stored, trailerOf}
 
 pub record BlockSound (t : Trailer) (image : List ℕ) (b : Listed) : Type 0 where
   pub size-low : 1 ≤ b .size
@@ -25,16 +26,7 @@ pub record BlockSound (t : Trailer) (image : List ℕ) (b : Listed) : Type 0 whe
   pub summed : field (trailerOf t image b) (t .checksum) 4 ≡ checksum (stored t image b)
 
 -- a block that the block tree lists under this number, and whose rules hold
-pub record ListedSound (image : List ℕ) (number : ℕ) (b : Listed) : Type 0 where
+pub record ListedSound (E : Edition) (image : List ℕ) (number : ℕ) (b : Listed) : Type 0 where
   pub pages : ℕ
-  pub found : blockOf image number ≡ Found b pages
-  pub sound : BlockSound trailer64 image b
-
--- what every trailer of a known edition has: its fields lie in it, and the room of the largest block is small
-pub record FairTrailer (t : Trailer) : Type 0 where
-  pub least : 4 ≤ t .length
-  pub small : t .length ≤ 64
-  pub checksum : t .checksum + 4 ≤ t .length
-  pub number : t .number + t .word ≤ t .length
-  pub word : t .word ≤ 8
-  pub most : t .most ≤ 65535
+  pub found : blockOf (E .blocks) image number ≡ Found b pages
+  pub sound : BlockSound (E .trailer) image b

@@ -1,4 +1,6 @@
 // Blocks: their room, their tests 12 to 15, and their bytes decoded.
+use edition::Edition;
+use edition::Trailer;
 use refusal::Fault;
 use refusal::Refusal;
 use refusal::Verdict;
@@ -10,21 +12,12 @@ ghost use Prim.Native.Nat.{_+_, _≤_};
 ghost use lib.ListN.{length};
 ghost use Rattle.refusal.specs.Order.{inOrder};
 ghost use Rattle.header.specs.Header.{headerFits};
-ghost use Rattle.page.specs.Layout.{bbt, compared};
+ghost use Rattle.page.specs.Layout.{compared};
 ghost use Rattle.tree.specs.Lookup.{lookup};
 ghost use Rattle.tree.specs.Ways.{atEnd, FromRoot};
-ghost use Rattle.block.specs.Sound.{FairTrailer};
+ghost use Rattle.edition.specs.Fair.{FairTrailer, FairEdition};
 ghost use Rattle.laws.specs.Front.{fronted};
-ghost use Rattle.block.specs.Block.{trailer64, roomFor, room as roomOf, placeFits, trailerFits, sumFits, trailerRules, blockFits, testedBy, checkedBlock, sizeIn, testOf, internal, plain, blockBytes, readOf, filledOf};
-
-// Where a block's trailer has its fields, and how much data a block has at most.
-pub struct Trailer {
-    pub length: u64,
-    pub checksum: usize,
-    pub number: usize,
-    pub word: usize,
-    pub most: u64,
-}
+ghost use Rattle.block.specs.Block.{roomFor, room as roomOf, room32 as room32Of, placeFits, trailerFits, sumFits, trailerRules, blockFits, testedBy, checkedBlock, sizeIn, testOf, internal, plain, blockBytes, readOf, filledOf};
 
 // A block as it is listed, after its tests; or the refusal.
 pub enum Checked {
@@ -38,19 +31,6 @@ pub enum Sized {
     Refused(Refusal),
 }
 
-// The trailer of the 64-bit edition.
-pub fn wide_trailer() -> Trailer
-    ensures { λ r. ⌜ r ≡ trailer64 ⌝ }
-{
-    Trailer {
-        length: 16,
-        checksum: 4,
-        number: 8,
-        word: 8,
-        most: 8176,
-    }
-}
-
 fn room_for(t: Trailer, size: u64) -> u64
     requires { ⌜ (size ≤ 4294967295) × (t .length ≤ 64) ⌝ }
     ensures { λ r. ⌜ r ≡ roomFor t size ⌝ }
@@ -61,7 +41,13 @@ fn room_for(t: Trailer, size: u64) -> u64
 pub fn room(size: u32) -> u64
     ensures { λ r. ⌜ r ≡ roomOf size ⌝ }
 {
-    room_for(wide_trailer(), size as u64)
+    room_for(edition::trailer_64(), size as u64)
+}
+
+pub fn room32(size: u32) -> u64
+    ensures { λ r. ⌜ r ≡ room32Of size ⌝ }
+{
+    room_for(edition::trailer_32(), size as u64)
 }
 
 // Test 13. The size is tested first, so that the room is a small number.
@@ -134,12 +120,13 @@ fn test_listed(image: &[u8], t: Trailer, b: Listed) -> Verdict
 }
 
 // What a lookup found, tested: 12 to 15 after what the lookup refuses.
-fn test_found(image: &[u8], found: FoundBlock) -> Checked
-    ensures { λ r. ⌜ r ≡ testedBy (blockFits trailer64 (now (image .entry))) found ⌝ }
+fn test_found(image: &[u8], t: Trailer, found: FoundBlock) -> Checked
+    requires { ⌜ FairTrailer t ⌝ }
+    ensures { λ r. ⌜ r ≡ testedBy (blockFits t (now (image .entry))) found ⌝ }
 {
     match found {
         FoundBlock::Found(b, _) => {
-            let verdict = test_listed(image, wide_trailer(), b);
+            let verdict = test_listed(image, t, b);
             match verdict {
                 Verdict::Accepted => Checked::Block(b),
                 Verdict::Refused(refusal) => Checked::Refused(refusal),
@@ -155,32 +142,42 @@ fn test_found(image: &[u8], found: FoundBlock) -> Checked
 }
 
 // A block that is looked up and tested.
-pub fn check_block(image: &[u8], block: u64) -> Checked
-    ensures { λ r. ⌜ r ≡ checkedBlock (now (image .entry)) block ⌝ }
+pub fn check_block(image: &[u8], e: Edition, block: u64) -> Checked
+    requires { ⌜ FairEdition e ⌝ }
+    ensures { λ r. ⌜ r ≡ checkedBlock e (now (image .entry)) block ⌝ }
 {
-    test_found(image, tree::find_block(image, block))
+    test_found(image, e.trailer, tree::find_block(image, e.blocks, block))
 }
 
 // The same in an image whose header is accepted.
-pub fn check_block_in(image: &[u8], block: u64) -> Checked
-    requires { ⌜ headerFits (now image) ≡ Verdict.Accepted ⌝ }
-    ensures { λ r. ⌜ r ≡ checkedBlock (now (image .entry)) block ⌝ }
+pub fn check_block_in(image: &[u8], e: Edition, block: u64) -> Checked
+    requires { ⌜ FairEdition e × (headerFits (now image) ≡ Verdict.Accepted) ⌝ }
+    ensures { λ r. ⌜ r ≡ checkedBlock e (now (image .entry)) block ⌝ }
 {
-    test_found(image, tree::find_block_in(image, block))
+    test_found(
+        image,
+        e.trailer,
+        tree::find_block_in(image, e.blocks, block),
+    )
 }
 
 // The same at the end of the block's way.
-pub fn check_block_at(image: &[u8], way: Way, block: u64) -> Checked
-    requires { ⌜ FromRoot bbt (now image) way × (atEnd bbt (now image) way (compared bbt block) ≡ lookup bbt (now image) block) ⌝ }
-    ensures { λ r. ⌜ r ≡ checkedBlock (now (image .entry)) block ⌝ }
+pub fn check_block_at(image: &[u8], e: Edition, way: Way, block: u64) -> Checked
+    requires { ⌜ FairEdition e × FromRoot (e .blocks) (now image) way × (atEnd (e .blocks) (now image) way (compared (e .blocks) block) ≡ lookup (e .blocks) (now image) block) ⌝ }
+    ensures { λ r. ⌜ r ≡ checkedBlock e (now (image .entry)) block ⌝ }
 {
-    test_found(image, tree::block_at(image, way, block))
+    test_found(
+        image,
+        e.trailer,
+        tree::block_at(image, e.blocks, way, block),
+    )
 }
 
-pub fn test_block(image: &[u8], block: u64) -> Sized
-    ensures { λ r. ⌜ r ≡ testOf (now (image .entry)) block ⌝ }
+pub fn test_block(image: &[u8], e: Edition, block: u64) -> Sized
+    requires { ⌜ FairEdition e ⌝ }
+    ensures { λ r. ⌜ r ≡ testOf e (now (image .entry)) block ⌝ }
 {
-    size_in(check_block(image, block))
+    size_in(check_block(image, e, block))
 }
 
 pub fn is_internal(block: u64) -> bool
@@ -243,11 +240,12 @@ fn size_in(checked: Checked) -> Sized
 }
 
 // The tests, then 17, then the bytes.
-pub fn read_block(image: &[u8], block: u64, out: &mut [u8]) -> Sized
-    ensures answer { λ r. ⌜ r ≡ readOf (now (image .entry)) block (length (now (out .entry))) ⌝ }
-    ensures buffer { λ _. ⌜ now (out .exit) ≡ filledOf (now (image .entry)) block (now (out .entry)) ⌝ }
+pub fn read_block(image: &[u8], e: Edition, block: u64, out: &mut [u8]) -> Sized
+    requires { ⌜ FairEdition e ⌝ }
+    ensures answer { λ r. ⌜ r ≡ readOf e (now (image .entry)) block (length (now (out .entry))) ⌝ }
+    ensures buffer { λ _. ⌜ now (out .exit) ≡ filledOf e (now (image .entry)) block (now (out .entry)) ⌝ }
 {
-    let checked = check_block(image, block);
+    let checked = check_block(image, e, block);
     let Checked::Block(b) = checked else {
         return size_in(checked);
     };

@@ -72,11 +72,11 @@ module _ (block rows : List ℕ) where
       item-bytes = ap (heldBytes block rows) e
 
     module _ (subnode : ℕ) (e : named ≡ Subnode subnode) where
-      pub subnode-held : length rows ≤ 8176 → inOrder (heldRules block rows named) ≡ Accepted
+      pub subnode-held : length rows ≤ 8180 → inOrder (heldRules block rows named) ≡ Accepted
       unfolding heldRules
       subnode-held h = ap (λ (n : Named). inOrder (heldRules block rows n)) e ∙ one-holds _ _ (le-leb _ _ h)
 
-      pub subnode-wrong : 8176 < length rows → inOrder (heldRules block rows named) ≡ Refused badTable
+      pub subnode-wrong : 8180 < length rows → inOrder (heldRules block rows named) ≡ Refused badTable
       unfolding heldRules
       subnode-wrong h = ap (λ (n : Named). inOrder (heldRules block rows n)) e ∙ one-breaks _ _ (lt-leb _ _ h)
 

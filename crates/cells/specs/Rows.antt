@@ -19,18 +19,18 @@ use Rattle.cells.specs.declared.Counted.the-variants.{Rows, Refused}
 abbrev pub rowsNamed : List ℕ → Named
 rowsNamed block = namedBy (rowsValue (tableRecord block))
 
--- "Rows 0: no rows; low five bits zero: a heap item (19 if wrong); else the caller's block of that subnode", of at most 8,176 bytes
+-- "Rows 0: no rows; low five bits zero: a heap item (19 if wrong); else the caller's block of that subnode", of at most 8,180 bytes
 module _ (block rows : List ℕ) where
   unfoldable pub heldRules : Named → List Rule
   heldRules Nothing = []
   heldRules (Item item) = rule (itemFits block item) badItem ∷ []
-  heldRules (Subnode subnode) = rule (leb (length rows) 8176) badTable ∷ []
+  heldRules (Subnode subnode) = rule (leb (length rows) 8180) badTable ∷ []
 
   -- the same as plain facts
   unfoldable pub Held : Named → Type 0
   Held Nothing = Unit {0}
   Held (Item item) = Numbered block item
-  Held (Subnode subnode) = length rows ≤ 8176
+  Held (Subnode subnode) = length rows ≤ 8180
 
   unfoldable pub heldBytes : Named → List ℕ
   heldBytes Nothing = []

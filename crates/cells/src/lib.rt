@@ -46,7 +46,7 @@ fn check_held(block: &[u8], rows: &[u8], named: Named) -> Verdict
             Verdict::Accepted
         }
         Named::Subnode(_) => {
-            if 8176 < rows.len() {
+            if 8180 < rows.len() {
                 return refusal::refused_at(Fault::TableShape, 0);
             }
             Verdict::Accepted

@@ -8,15 +8,11 @@ use native.Mathlib.Numerals.{add-one}
 use native.Mathlib.Omega.{arith}
 use lib.Dec.{leb, eqb}
 use borrow.Author.Tests.{leb-true, le-leb, leb-false, eqb-true, eq-eqb, eqb-false, ne-eqb, not-true}
-use Rattle.laws.proofs.Tests.{and-both, both-and}
+use Rattle.laws.proofs.Tests.{and-both, both-and, either}
 use Rattle.columns.specs.declared.Column.{Column}
 use Rattle.columns.specs.Record.{columnCount, existenceStart, rowSize}
 use Rattle.columns.specs.Columns.{columnAt, refers, widthFits, columnFits, apart, eachFits, apartFrom, allApart, columnsFit}
 use Rattle.columns.specs.Sound.{Takes, NumberWidth, ColumnSound, Apart, ColumnsSound}
-
-either : (a b : Bool) → (a || b) ≡ true → (a ≡ true) ⊎ (b ≡ true)
-either true b e = inl refl
-either false b e = inr e
 
 -- the widths of numbers
 one-of : (w : ℕ) → (eqb w 1 || eqb w 2 || eqb w 4 || eqb w 8) ≡ true → NumberWidth w

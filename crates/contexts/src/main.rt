@@ -118,10 +118,45 @@ fn index_tables() {
     heap_lines(b"50-refusal-23-indexkeyatend.heap");
 }
 
+// Request 7/13: tables of the 32-bit edition, whose row index has entries of two bytes.
+fn older_tables() {
+    heap_lines(b"51-bits32-cells.heap");
+    pair_lines(b"52-bits32-30-columns.heap", b"52-bits32-30-columns.rows");
+    heap_lines(b"53-bits32-rows-none.heap");
+    heap_lines(b"54-bits32-index-level-1.heap");
+    heap_lines(b"55-bits32-index-level-2.heap");
+    heap_lines(b"56-bits32-index-level-3.heap");
+}
+
+// 19 and 23 for such a row index.
+fn older_index_tables() {
+    heap_lines(b"57-bits32-refusal-19-indexchild.heap");
+    heap_lines(b"58-bits32-refusal-23-indexentrysize.heap");
+    heap_lines(b"59-bits32-refusal-23-indexpartrecord.heap");
+    heap_lines(b"60-bits32-refusal-23-indexkeyequal.heap");
+    heap_lines(b"61-bits32-refusal-23-indexkeyatend.heap");
+}
+
+// The most bytes of a heap and of rows, and one more.
+fn bound_tables() {
+    heap_lines(b"62-heap-8177.heap");
+    heap_lines(b"63-bits32-heap-8180.heap");
+    heap_lines(b"64-refusal-18-heap-8181.heap");
+    pair_lines(b"65-rows-8180.heap", b"65-rows-8180.rows");
+    pair_lines(b"66-bits32-rows-8177.heap", b"66-bits32-rows-8177.rows");
+    pair_lines(
+        b"67-refusal-23-rows-8181.heap",
+        b"67-refusal-23-rows-8181.rows",
+    );
+}
+
 fn main() {
     valid_tables();
     record_tables();
     column_tables();
     row_tables();
     index_tables();
+    older_tables();
+    older_index_tables();
+    bound_tables();
 }

@@ -34,15 +34,21 @@ pub fn read_lines<'a>(block: &'a [u8], rows: &'a [u8]) {
     read_line(block, rows, 0xFFFF_FFFF, &mut past);
 }
 
-fn find_line(block: &[u8], id: u32) {
-    answers::say_four_bytes(b"find_row ", id);
+fn say_found(words: &[u8], id: u32, answer: FoundRow) {
+    answers::say_four_bytes(words, id);
     said::say(b": ");
-    match pst::find_row(block, id) {
+    match answer {
         FoundRow::Row(row) => said::say_decimal(b"row ", row as u64),
         FoundRow::Absent => said::say(b"absent"),
         FoundRow::Refused(wrong) => said::say_refusal(wrong),
     }
     said::say(b"\n");
+}
+
+// The id by the row index, and by that of a 32-bit file.
+fn find_line(block: &[u8], id: u32) {
+    say_found(b"find_row ", id, pst::find_row(block, id));
+    say_found(b"find_row32 ", id, pst::find_row32(block, id));
 }
 
 // The id that the row itself holds, where it holds one.

@@ -18,9 +18,10 @@ use Rattle.refusal.specs.Order.{_at_, after, Rule, rule, AllHold, none, both, F
 use Rattle.refusal.proofs.OrderLaws.{Each, last-exactly, hold-apart, hold-both}
 use Rattle.header.specs.declared.Header.{Header}
 use Rattle.header.specs.declared.HeaderAnswer.the-variants.{Says, Refused}
-use Rattle.header.specs.Header.{encodingFits, statedEnd, endFits, markRules, sealRules, lastRules, headerRules, headerFits, methodOf, headerOf, fileEnd}
+use Rattle.header.specs.Header.{editionOf, methodPlace, encodingFits, endPlace, statedEnd, endFits, markRules, sealRules, lastRules, headerRules, headerFits, methodOf, headerOf, fileEnd}
 use Rattle.header.specs.End.{Above, AlikeToEnd, Hanging, LooksToEnd}
-use Rattle.header.proofs.HeaderLaws.{part-agrees, stated-agrees, rules-agree, says-agrees, method-agrees}
+use Rattle.header.proofs.EditionLaws.{fair-places}
+use Rattle.header.proofs.HeaderLaws.{part-agrees, edition-agrees, stated-agrees, rules-agree, says-agrees, method-agrees}
 
 -- behind bytes that hold the whole header and reach its number
 module _ (kept more : List ℕ) (whole : 564 ≤ length kept) (ended : statedEnd kept ≤ length kept) where
@@ -69,6 +70,9 @@ module _ (one other : List ℕ) (alike : AlikeToEnd one other) where
   pub header-alike : headerFits one ≡ headerFits other
   header-alike = rules-agree one other (alike .header) (alike .bounds) (alike .reach)
 
+  pub edition-alike : editionOf one ≡ editionOf other
+  edition-alike = edition-agrees one other (alike .header)
+
   pub method-alike : methodOf one ≡ methodOf other
   method-alike = method-agrees one other (alike .header)
 
@@ -76,24 +80,33 @@ module _ (one other : List ℕ) (alike : AlikeToEnd one other) where
   unfolding headerOf
   answer-alike = ap₂ (λ (v : Verdict) (h : Header). after Refused v (Says h)) header-alike (says-agrees one other (alike .header))
 
--- 1 at place 184 is refused exactly when all that comes before holds, and the header's number is above the image's length
+-- 1 at the number's place is refused exactly when all that comes before holds, and the number is above the image's length
 module _ (image : List ℕ) where
+  last-fault : Refusal
+  last-fault = ImageLength at endPlace image
+
   before : List Rule
-  before = (markRules image ++ sealRules image) ++ (rule (encodingFits image) (Encoding at 513) ∷ [])
+  before = (markRules image ++ sealRules image) ++ (rule (encodingFits image) (Encoding at methodPlace image) ∷ [])
 
-  elsewhere : (r : Refusal) → eqb (r .place) 184 ≡ false → r ≡ ImageLength at 184 → ⊥
-  elsewhere r n e = not-both _ (eq-eqb _ _ (ap (λ (s : Refusal). s .place) e)) n
+  other-place : (r : Refusal) → (r .place ≡ endPlace image → ⊥) → r ≡ last-fault → ⊥
+  unfolding last-fault
+  other-place r n e = n (ap (λ (s : Refusal). s .place) e)
 
-  others : Each (λ s. s ≡ ImageLength at 184 → ⊥) before
+  others : Each (λ s. s ≡ last-fault → ⊥) before
   unfolding before markRules sealRules
-  others = (elsewhere _ refl, (elsewhere _ refl, (elsewhere _ refl, (elsewhere _ refl, (elsewhere _ refl, (elsewhere _ refl, (elsewhere _ refl, (elsewhere _ refl, tt))))))))
+  others =
+      let between = fair-places image .between in
+      let sentinel = fair-places image .sentinel in (
+        other-place _ (λ e. omega arith),
+        (other-place _ (λ e. omega arith), (other-place _ (λ e. omega arith), (other-place _ (λ e. omega arith), (other-place _ (λ e. omega arith), (other-place _ (λ e. omega arith), (other-place _ (λ e. omega arith), (other-place _ (λ e. omega arith), tt))))))),
+      )
 
-  last : FirstFault (headerRules image) (ImageLength at 184) ↔ (AllHold before × (endFits image ≡ false))
-  unfolding before markRules sealRules lastRules
-  last = last-exactly before (rule (endFits image) (ImageLength at 184)) others
+  last : FirstFault (headerRules image) last-fault ↔ (AllHold before × (endFits image ≡ false))
+  unfolding before last-fault markRules sealRules lastRules
+  last = last-exactly before (rule (endFits image) last-fault) others
 
-  pub end-refused : FirstFault (headerRules image) (ImageLength at 184) ↔ Above image
-  unfolding before endFits
+  pub end-refused : FirstFault (headerRules image) (ImageLength at endPlace image) ↔ Above image
+  unfolding before last-fault endFits
   end-refused = (
     (λ f.
         let parts = last .0 f in
@@ -102,5 +115,5 @@ module _ (image : List ℕ) where
     (λ h. last .1 (hold-both (markRules image ++ sealRules image) _ (h .fields) (both (h .known) none), lt-leb _ _ (h .short))),
   )
     where
-      only : AllHold (rule (encodingFits image) (Encoding at 513) ∷ []) → encodingFits image ≡ true
+      only : AllHold (rule (encodingFits image) (Encoding at methodPlace image) ∷ []) → encodingFits image ≡ true
       only (both h none) = h

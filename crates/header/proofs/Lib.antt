@@ -1,2 +1,4 @@
+pub mod EditionLaws
 pub mod HeaderLaws
 pub mod EndLaws
+pub mod FormerLaws

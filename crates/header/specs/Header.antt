@@ -1,6 +1,6 @@
--- Document 01, "Header" (003, 2.2.2.5 and 2.2.2.6), and document 02, 6/13: where the file ends. Assumes nothing: these are definitions.
+-- Document 01, "Header" (003, 2.2.2.5 and 2.2.2.6), and document 02, 6/13: where the file ends, and 7/13: which edition it is of. Assumes nothing: these are definitions.
 use Prim.Native.Nat.{ℕ, _+_, min}
-use mathlib.Core.Bool.{Bool, _&&_}
+use mathlib.Core.Bool.{Bool, true, _&&_, _||_, cond}
 use mathlib.Core.List.{List, [], _∷_, _++_}
 use lib.Dec.{eqb, leb}
 use lib.ListN.{length}
@@ -9,6 +9,10 @@ use Rattle.crc.specs.Checksum.{checksum}
 use Rattle.refusal.specs.declared.Verdict.{Verdict}
 use Rattle.refusal.specs.declared.Fault.the-variants.{ImageLength, Magic, Version, HeaderChecksum, Encoding}
 use Rattle.refusal.specs.Order.{_at_, Rule, rule, inOrder, after}
+use Rattle.edition.specs.declared.HeaderPlaces.{HeaderPlaces}
+use Rattle.edition.specs.declared.Layout.{Layout}
+use Rattle.edition.specs.declared.Edition.{Edition}
+use Rattle.edition.specs.Editions.{edition64, edition32}
 use Rattle.header.specs.declared.Reference.{Reference}
 use Rattle.header.specs.declared.Header.{Header}
 use Rattle.header.specs.declared.HeaderAnswer.{HeaderAnswer}
@@ -26,28 +30,59 @@ magicFits image = eqb (byte image 0) 0x21 && eqb (byte image 1) 0x42 && eqb (byt
 unfoldable pub clientFits : List ℕ → Bool
 clientFits image = eqb (byte image 8) 0x53 && eqb (byte image 9) 0x4D
 
--- "the two bytes at 10 are 23"
+-- "the two bytes at 10 are 23"; 02, 7/13: "Accept versions 14 and 15"
+unfoldable pub versionOf : List ℕ → ℕ
+versionOf image = field image 10 2
+
+unfoldable pub older : List ℕ → Bool
+older image = eqb (versionOf image) 14 || eqb (versionOf image) 15
+
 unfoldable pub versionFits : List ℕ → Bool
-versionFits image = eqb (field image 10 2) 23
+versionFits image = eqb (versionOf image) 23 || older image
+
+-- the edition of an image: by these two versions the 32-bit one, else the 64-bit one
+unfoldable pub editionOf : List ℕ → Edition
+editionOf image = cond (older image) edition32 edition64
+
+-- where its header has what differs, and the layouts of its two trees
+abbrev pub placesOf : List ℕ → HeaderPlaces
+placesOf image = (editionOf image) .header
+
+abbrev pub nodesOf : List ℕ → Layout
+nodesOf image = (editionOf image) .nodes
+
+abbrev pub blocksOf : List ℕ → Layout
+blocksOf image = (editionOf image) .blocks
 
 -- "the four bytes at 4 equal the checksum of 471 bytes from 8; the four bytes at 524 equal the checksum of 516 bytes from 8"
 unfoldable pub headerSumFits : List ℕ → ℕ → ℕ → Bool
 headerSumFits image place size = eqb (field image place 4) (checksum (part image 8 size))
 
+-- 7/13: "These versions have only the partial header checksum."
+unfoldable pub wholeFits : List ℕ → Bool
+wholeFits image = cond ((placesOf image) .whole) (headerSumFits image 524 516) true
+
 -- "byte 512 is 80 hex"
 unfoldable pub sentinelFits : List ℕ → Bool
-sentinelFits image = eqb (byte image 512) 0x80
+sentinelFits image = eqb (byte image ((placesOf image) .sentinel)) 0x80
+
+-- where the encoding method stands: right behind the sentinel
+abbrev pub methodPlace : List ℕ → ℕ
+methodPlace image = (placesOf image) .sentinel + 1
 
 -- the encoding method: "byte 513 is 0 (none), 1 (permute) or 2 (cyclic)"
 unfoldable pub methodOf : List ℕ → ℕ
-methodOf image = byte image 513
+methodOf image = byte image (methodPlace image)
 
 unfoldable pub encodingFits : List ℕ → Bool
 encodingFits image = leb (methodOf image) 2
 
--- 02, 6/13: "The end-of-file number in the header (eight bytes at 184)"
+-- 02, 6/13: "The end-of-file number in the header (eight bytes at 184)"; 7/13: "is four bytes at 168, its place too"
+abbrev pub endPlace : List ℕ → ℕ
+endPlace image = (placesOf image) .end .place
+
 unfoldable pub statedEnd : List ℕ → ℕ
-statedEnd image = field image 184 8
+statedEnd image = field image (endPlace image) ((placesOf image) .end .width)
 
 -- "A header number above the image length is refused with 1 and place 184, after the encoding test."
 unfoldable pub endFits : List ℕ → Bool
@@ -65,14 +100,14 @@ markRules image =
 unfoldable pub sealRules : List ℕ → List Rule
 sealRules image =
     rule (headerSumFits image 4 471) (HeaderChecksum at 4)
-    ∷ rule (headerSumFits image 524 516) (HeaderChecksum at 524)
-    ∷ rule (sentinelFits image) (Encoding at 512)
+    ∷ rule (wholeFits image) (HeaderChecksum at 524)
+    ∷ rule (sentinelFits image) (Encoding at (placesOf image) .sentinel)
     ∷ []
 
 unfoldable pub lastRules : List ℕ → List Rule
 lastRules image =
-    rule (encodingFits image) (Encoding at 513)
-    ∷ rule (endFits image) (ImageLength at 184)
+    rule (encodingFits image) (Encoding at methodPlace image)
+    ∷ rule (endFits image) (ImageLength at endPlace image)
     ∷ []
 
 abbrev pub headerRules : List ℕ → List Rule
@@ -81,18 +116,23 @@ headerRules image = (markRules image ++ sealRules image) ++ lastRules image
 unfoldable pub headerFits : List ℕ → Verdict
 headerFits image = inOrder (headerRules image)
 
--- a page's number, and its offset behind it, "eight bytes each"
-unfoldable pub referenceAt : List ℕ → ℕ → Reference
-referenceAt image place = record { number = field image place 8; offset = field image (place + 8) 8 }
+-- a page's number, and its offset behind it, "eight bytes each", or as wide as the edition has them
+unfoldable pub referenceAt : List ℕ → ℕ → ℕ → Reference
+referenceAt image place width = record { number = field image place width; offset = field image (place + width) width }
 
--- the encoding method; the root references: "NBT page number at 216, its offset at 224; BBT page number at 232, its offset at 240"; and the end-of-file number
+-- where the root page of a tree of this layout is
+abbrev pub rootAt : List ℕ → Layout → Reference
+rootAt image L = referenceAt image (L .root) (L .word)
+
+-- the encoding method; the root references: "NBT page number at 216, its offset at 224; BBT page number at 232, its offset at 240"; the end-of-file number; and the edition, 64 or 32
 unfoldable pub says : List ℕ → Header
 says image =
     record {
       method = methodOf image;
-      nodes = referenceAt image 216;
-      blocks = referenceAt image 232;
+      nodes = rootAt image (nodesOf image);
+      blocks = rootAt image (blocksOf image);
       end = statedEnd image;
+      edition = (editionOf image) .bits;
     }
 
 -- the outcome of the header call

@@ -1,3 +1,4 @@
 pub mod Header
 pub mod Sound
 pub mod End
+pub mod Former

@@ -1,4 +1,7 @@
 // The header's tests, and what it says.
+use edition::Edition;
+use edition::HeaderPlaces;
+use edition::Layout;
 use refusal::Fault;
 use refusal::Refusal;
 use refusal::Verdict;
@@ -10,7 +13,8 @@ ghost use lib.ListN.{length};
 ghost use Rattle.le.specs.Bytes.{part, field};
 ghost use Rattle.crc.specs.Checksum.{checksum};
 ghost use Rattle.refusal.specs.Order.{inOrder};
-ghost use Rattle.header.specs.Header.{lengthFits, magicFits, clientFits, versionFits, sentinelFits, methodOf, encodingFits, statedEnd, endFits, markRules, sealRules, lastRules, headerFits, referenceAt, headerOf, fileEnd};
+ghost use Rattle.edition.specs.Fair.{FairLayout};
+ghost use Rattle.header.specs.Header.{lengthFits, magicFits, clientFits, versionOf, older, versionFits, editionOf, placesOf, nodesOf, blocksOf, wholeFits, sentinelFits, methodOf, encodingFits, statedEnd, endFits, markRules, sealRules, lastRules, headerFits, rootAt, headerOf, fileEnd};
 
 // A page as the header refers to it.
 pub struct Reference {
@@ -23,6 +27,7 @@ pub struct Header {
     pub nodes: Reference,
     pub blocks: Reference,
     pub end: u64,
+    pub edition: u64,
 }
 
 pub enum HeaderAnswer {
@@ -50,11 +55,86 @@ fn client_fits(image: &[u8]) -> bool
     (image[8] == 0x53) & (image[9] == 0x4D)
 }
 
+// A field of the image; of one that the image's end cuts, what the image holds of it.
+fn field_held(image: &[u8], place: usize, width: usize) -> u64
+    requires { ⌜ width ≤ 8 ⌝ }
+    ensures { λ r. ⌜ r ≡ field (now (image .entry)) place width ⌝ }
+{
+    if image.len() < place {
+        return 0;
+    }
+    let held = image.len() - place;
+    if held < width {
+        return le::field_of(image, place, held);
+    }
+    le::field_of(image, place, width)
+}
+
+fn version_of(image: &[u8]) -> u64
+    ensures { λ r. ⌜ r ≡ versionOf (now (image .entry)) ⌝ }
+{
+    field_held(image, 10, 2)
+}
+
+// Whether the image is of a version of the 32-bit edition.
+fn is_older(image: &[u8]) -> bool
+    ensures { λ r. ⌜ r ≡ older (now (image .entry)) ⌝ }
+{
+    let version = version_of(image);
+    (version == 14) | (version == 15)
+}
+
 fn version_fits(image: &[u8]) -> bool
-    requires { ⌜ 564 ≤ length (now image) ⌝ }
     ensures { λ r. ⌜ r ≡ versionFits (now (image .entry)) ⌝ }
 {
-    le::field2(image, 10) == 23
+    (version_of(image) == 23) | is_older(image)
+}
+
+// The edition of the image, and of its parts those that a call needs alone.
+pub fn edition_of(image: &[u8]) -> Edition
+    ensures { λ r. ⌜ r ≡ editionOf (now (image .entry)) ⌝ }
+{
+    if is_older(image) {
+        edition::edition_32()
+    } else {
+        edition::edition_64()
+    }
+}
+
+fn bits_of(image: &[u8]) -> u64
+    ensures { λ r. ⌜ r ≡ (editionOf (now (image .entry))) .bits ⌝ }
+{
+    if is_older(image) { 32 } else { 64 }
+}
+
+fn places_of(image: &[u8]) -> HeaderPlaces
+    ensures { λ r. ⌜ r ≡ placesOf (now (image .entry)) ⌝ }
+{
+    if is_older(image) {
+        edition::places_32()
+    } else {
+        edition::places_64()
+    }
+}
+
+pub fn nodes_of(image: &[u8]) -> Layout
+    ensures { λ r. ⌜ r ≡ nodesOf (now (image .entry)) ⌝ }
+{
+    if is_older(image) {
+        edition::nodes_32()
+    } else {
+        edition::nodes_64()
+    }
+}
+
+pub fn blocks_of(image: &[u8]) -> Layout
+    ensures { λ r. ⌜ r ≡ blocksOf (now (image .entry)) ⌝ }
+{
+    if is_older(image) {
+        edition::blocks_32()
+    } else {
+        edition::blocks_64()
+    }
 }
 
 // The checksum of 471 bytes from 8.
@@ -81,11 +161,22 @@ fn sum_stands(image: &[u8], place: usize, sum: u32) -> bool
     le::field4(image, place) == sum
 }
 
-fn sentinel_fits(image: &[u8]) -> bool
-    requires { ⌜ 564 ≤ length (now image) ⌝ }
+// Whether the second checksum stands, where the edition has one.
+fn whole_fits(image: &[u8], places: HeaderPlaces, partial: u32) -> bool
+    requires { ⌜ (564 ≤ length (now image)) × (places ≡ placesOf (now image)) × (partial ≡ checksum (part (now image) 8 471)) ⌝ }
+    ensures { λ r. ⌜ r ≡ wholeFits (now (image .entry)) ⌝ }
+{
+    if !places.whole {
+        return true;
+    }
+    sum_stands(image, 524, whole_sum(image, partial))
+}
+
+fn sentinel_fits(image: &[u8], places: HeaderPlaces) -> bool
+    requires { ⌜ (564 ≤ length (now image)) × (places ≡ placesOf (now image)) ⌝ }
     ensures { λ r. ⌜ r ≡ sentinelFits (now (image .entry)) ⌝ }
 {
-    image[512] == 0x80
+    le::byte_at(image, places.sentinel) == 0x80
 }
 
 // The encoding method.
@@ -93,7 +184,8 @@ pub fn method_of(image: &[u8]) -> u8
     requires { ⌜ 564 ≤ length (now image) ⌝ }
     ensures { λ r. ⌜ r ≡ methodOf (now (image .entry)) ⌝ }
 {
-    le::byte_at(image, 513)
+    let places = places_of(image);
+    le::byte_at(image, places.sentinel + 1)
 }
 
 fn encoding_fits(image: &[u8]) -> bool
@@ -103,25 +195,13 @@ fn encoding_fits(image: &[u8]) -> bool
     method_of(image) <= 2
 }
 
-// What an image that ends before byte 192 holds of the end-of-file number.
-fn cut_end(image: &[u8]) -> u64
-    requires { ⌜ length (now image) < 192 ⌝ }
-    ensures { λ r. ⌜ r ≡ statedEnd (now (image .entry)) ⌝ }
-{
-    if image.len() < 184 {
-        return 0;
-    }
-    le::field_of(image, 184, image.len() - 184)
-}
-
 // The end-of-file number.
 pub fn stated_end(image: &[u8]) -> u64
     ensures { λ r. ⌜ r ≡ statedEnd (now (image .entry)) ⌝ }
 {
-    if image.len() < 192 {
-        return cut_end(image);
-    }
-    le::field8(image, 184)
+    let places = places_of(image);
+    let end = places.end;
+    field_held(image, end.place, end.width)
 }
 
 fn end_fits(image: &[u8]) -> bool
@@ -154,15 +234,16 @@ fn check_seals(image: &[u8]) -> Verdict
     requires { ⌜ 564 ≤ length (now image) ⌝ }
     ensures { λ r. ⌜ r ≡ inOrder (sealRules (now (image .entry))) ⌝ }
 {
+    let places = places_of(image);
     let partial = partial_sum(image);
     if !sum_stands(image, 4, partial) {
         return refusal::refused_at(Fault::HeaderChecksum, 4);
     }
-    if !sum_stands(image, 524, whole_sum(image, partial)) {
+    if !whole_fits(image, places, partial) {
         return refusal::refused_at(Fault::HeaderChecksum, 524);
     }
-    if !sentinel_fits(image) {
-        return refusal::refused_at(Fault::Encoding, 512);
+    if !sentinel_fits(image, places) {
+        return refusal::refused_at(Fault::Encoding, places.sentinel as u64);
     }
     Verdict::Accepted
 }
@@ -172,13 +253,15 @@ fn check_last(image: &[u8]) -> Verdict
     requires { ⌜ 564 ≤ length (now image) ⌝ }
     ensures { λ r. ⌜ r ≡ inOrder (lastRules (now (image .entry))) ⌝ }
 {
+    let places = places_of(image);
+    let end = places.end;
     let known = encoding_fits(image);
     let reached = end_fits(image);
     if !known {
-        return refusal::refused_at(Fault::Encoding, 513);
+        return refusal::refused_at(Fault::Encoding, places.sentinel as u64 + 1);
     }
     if !reached {
-        return refusal::refused_at(Fault::ImageLength, 184);
+        return refusal::refused_at(Fault::ImageLength, end.place as u64);
     }
     Verdict::Accepted
 }
@@ -204,12 +287,15 @@ pub fn check_header(image: &[u8]) -> Verdict
     check_last(image)
 }
 
-fn reference_at(image: &[u8], place: usize) -> Reference
-    requires { ⌜ place + 16 ≤ length (now image) ⌝ }
-    ensures { λ r. ⌜ r ≡ referenceAt (now (image .entry)) place ⌝ }
+// The root page of a tree of this layout, as the header refers to it.
+fn root_at(image: &[u8], l: Layout) -> Reference
+    requires { ⌜ FairLayout l × (564 ≤ length (now image)) ⌝ }
+    ensures { λ r. ⌜ r ≡ rootAt (now (image .entry)) l ⌝ }
 {
-    let number = le::field8(image, place);
-    let offset = le::field8(image, place + 8);
+    let place = l.root;
+    let word = l.word;
+    let number = le::field_of(image, place, word);
+    let offset = le::field_of(image, place + word, word);
     Reference { number, offset }
 }
 
@@ -220,15 +306,17 @@ pub fn header_of(image: &[u8]) -> HeaderAnswer
     if let Verdict::Refused(refusal) = verdict {
         return HeaderAnswer::Refused(refusal);
     }
-    let nodes = reference_at(image, 216);
-    let blocks = reference_at(image, 232);
+    let nodes = root_at(image, nodes_of(image));
+    let blocks = root_at(image, blocks_of(image));
     let method = method_of(image);
     let end = stated_end(image);
+    let edition = bits_of(image);
     HeaderAnswer::Says(Header {
         method,
         nodes,
         blocks,
         end,
+        edition,
     })
 }
 

@@ -62,7 +62,7 @@ heap-offsets block h =
 pub offsets-fall : (block : List ℕ) → offsetsFit block ≡ false → Heap block → ⊥
 offsets-fall block e h = let clash : true ≡ false = sym (heap-offsets block h) ∙ e in let odd : _≡_ {A = ℕ} 0 1 = cc in omega arith
 
-pub is-heap : (block : List ℕ) → 12 ≤ length block → length block ≤ 8176 → byte block 2 ≡ 0xEC → 12 ≤ mapOffset block
+pub is-heap : (block : List ℕ) → 12 ≤ length block → length block ≤ 8180 → byte block 2 ≡ 0xEC → 12 ≤ mapOffset block
     → mapEnd block ≤ length block → itemCount block ≤ 2047 → offsetsFit block ≡ true → Heap block
 unfolding offsetsFit
 is-heap block long short mark map inside few o =
@@ -85,7 +85,7 @@ module _ (block : List ℕ) where
   facts : AllHold (shapeRules block) → Heap block
   unfolding shapeRules
   facts (both l (both m (both low (both e (both few (both o none)))))) =
-      let bounds = and-both (leb 12 (length block)) (leb (length block) 8176) l in
+      let bounds = and-both (leb 12 (length block)) (leb (length block) 8180) l in
       is-heap block (leb-true _ _ (bounds .0)) (leb-true _ _ (bounds .1)) (eqb-true _ _ m) (leb-true _ _ low) (leb-true _ _ e) (leb-true _ _ few) o
 
   tests : Heap block → AllHold (shapeRules block)

@@ -50,9 +50,10 @@ abbrev pub badShape : Refusal
 badShape = HeapShape at 0
 
 -- "18 unless: block length in bounds; byte 2 is EC; map offset at least 12; the map ends inside the block; a at most 2,047; ..."
+-- Document 02, 7/13: "Heaps may reach 8,180 bytes."
 unfoldable pub shapeRules : List ℕ → List Rule
 shapeRules block =
-    rule (leb 12 (length block) && leb (length block) 8176) badShape
+    rule (leb 12 (length block) && leb (length block) 8180) badShape
     ∷ rule (eqb (byte block 2) 0xEC) badShape
     ∷ rule (leb 12 (mapOffset block)) badShape
     ∷ rule (leb (mapEnd block) (length block)) badShape
@@ -67,7 +68,7 @@ heapTest block = inOrder (shapeRules block)
 -- the same rules as plain facts, with no order among them
 pub record Heap (block : List ℕ) : Type 0 where
   pub long : 12 ≤ length block
-  pub short : length block ≤ 8176
+  pub short : length block ≤ 8180
   pub mark : byte block 2 ≡ 0xEC
   pub map : 12 ≤ mapOffset block
   pub inside : mapEnd block ≤ length block

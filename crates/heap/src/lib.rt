@@ -97,7 +97,7 @@ pub fn test_heap(block: &[u8]) -> Verdict
     if block.len() < 12 {
         return wrong;
     }
-    if 8176 < block.len() {
+    if 8180 < block.len() {
         return wrong;
     }
     if le::byte_at(block, 2) != 0xEC {

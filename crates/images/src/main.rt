@@ -1,28 +1,5 @@
 // Reads the images of data/, each built by the second program, and says every answer: one line for a call.
-mod answers;
-mod blocks;
-mod heaps;
-mod lists;
-mod nodes;
-mod text;
-
-fn image_lines(name: &[u8]) {
-    let mut buffer = io::large_buffer();
-    let file = said::load(name, &mut buffer);
-    if !file.whole {
-        return;
-    }
-    let n = file.size;
-    let mut out = io::large_buffer();
-    said::say(name);
-    said::say(b": ");
-    text::say_bytes(&buffer[..n]);
-    said::say(b"\n");
-    answers::whole_lines(&buffer[..n]);
-    nodes::list_nodes(&buffer[..n], &mut out);
-    lists::list_lines(&buffer[..n]);
-    blocks::list_blocks(&buffer[..n], &mut out);
-}
+use asked::image_lines;
 
 // Each method, depth and height of a property tree. In 06 two index keys of the block tree differ in
 // bit 0 alone, which is 11.
@@ -38,7 +15,8 @@ fn valid_images() {
     image_lines(b"09-permute-level-7.img");
 }
 
-// Refusals 1 to 5.
+// Refusals 1 to 5; in 13 the version is one of the 32-bit edition, and the header has no sentinel where that
+// edition has it, which is 5.
 fn header_images() {
     image_lines(b"10-refusal-1-short.img");
     image_lines(b"11-refusal-2-magic.img");
@@ -127,6 +105,77 @@ fn end_images() {
     image_lines(b"70-end-block-at.img");
 }
 
+// Request 7/13, the 32-bit edition: each method, and trees of several levels.
+fn older_images() {
+    image_lines(b"71-bits32-empty.img");
+    image_lines(b"72-bits32-none-level-0.img");
+    image_lines(b"73-bits32-permute-level-1.img");
+    image_lines(b"74-bits32-cyclic-level-2.img");
+    image_lines(b"75-bits32-permute-level-4.img");
+    image_lines(b"76-bits32-cyclic-level-7.img");
+}
+
+// Its refusals 3 to 5.
+fn older_header_images() {
+    image_lines(b"77-bits32-refusal-3-version.img");
+    image_lines(b"78-bits32-refusal-4-partialsum.img");
+    image_lines(b"79-bits32-refusal-5-sentinel.img");
+    image_lines(b"80-bits32-refusal-5-method.img");
+}
+
+// Its refusals 6 to 11; in 83 the pages stand under a header of the 64-bit edition.
+fn older_page_images() {
+    image_lines(b"81-bits32-refusal-6-childoffset.img");
+    image_lines(b"82-bits32-refusal-7-pagekind.img");
+    image_lines(b"83-bits32-refusal-7-otheredition.img");
+    image_lines(b"84-bits32-refusal-8-pagenumber.img");
+    image_lines(b"85-bits32-refusal-8-pagesignature.img");
+    image_lines(b"86-bits32-refusal-9-otherpagesum.img");
+    image_lines(b"87-bits32-refusal-10-entriesover.img");
+    image_lines(b"88-bits32-refusal-10-pagelevel.img");
+    image_lines(b"89-bits32-refusal-11-keyequal.img");
+}
+
+// Its refusals 12 to 16, and 21.
+fn older_data_images() {
+    image_lines(b"90-bits32-refusal-12-treechild.img");
+    image_lines(b"91-bits32-refusal-13-listedsize.img");
+    image_lines(b"92-bits32-refusal-14-trailerexchanged.img");
+    image_lines(b"93-bits32-refusal-15-blockbyte.img");
+    image_lines(b"94-bits32-refusal-16-treesum.img");
+    image_lines(b"95-bits32-refusal-21-keystale.img");
+}
+
+// Requests 1/13 and 6/13 in the 32-bit edition.
+fn older_request_images() {
+    image_lines(b"96-bits32-bit0-ticket.img");
+    image_lines(b"97-bits32-bit0-tree.img");
+    image_lines(b"98-bits32-bit0-trailers.img");
+    image_lines(b"99-bits32-end-too-high.img");
+    image_lines(b"100-bits32-end-page-over.img");
+    image_lines(b"101-bits32-end-block-at.img");
+}
+
+// The most bytes of a block and of a heap, the most children of a data tree, and one more; then the most
+// entries of a page, and the highest number of a block.
+fn older_bound_images() {
+    image_lines(b"102-bits32-size-8180.img");
+    image_lines(b"103-bits32-size-8181.img");
+    image_lines(b"104-bits32-heap-8180.img");
+    image_lines(b"105-bits32-tree-2043.img");
+    image_lines(b"106-bits32-tree-2044.img");
+    image_lines(b"107-bits32-tree-says-2044.img");
+    image_lines(b"108-bits32-full-pages.img");
+    image_lines(b"109-bits32-highest-listed.img");
+}
+
+// Beside them the 64-bit edition: one byte more than a block has at most, and pages under a header of the
+// 32-bit edition.
+fn newer_bound_images() {
+    image_lines(b"110-bits64-size-8177.img");
+    image_lines(b"111-bits64-refusal-7-otheredition.img");
+}
+
 fn main() {
     valid_images();
     header_images();
@@ -136,4 +185,11 @@ fn main() {
     key_images();
     list_images();
     end_images();
+    older_images();
+    older_header_images();
+    older_page_images();
+    older_data_images();
+    older_request_images();
+    older_bound_images();
+    newer_bound_images();
 }

@@ -10,7 +10,6 @@ use Rattle.refusal.specs.declared.Refusal.{Refusal}
 use Rattle.refusal.specs.Order.{Rule}
 use Rattle.keys.specs.declared.Sought.the-variants.{Equal}
 use Rattle.keys.specs.Records.{cleared}
-use Rattle.page.specs.Layout.{nbt, bbt}
 use Rattle.tree.specs.declared.FoundNode.{FoundNode}
 use Rattle.tree.specs.declared.FoundNode.the-variants as node
 use Rattle.tree.specs.Answers.{nodeOf}
@@ -21,13 +20,14 @@ use Rattle.block.specs.declared.Checked.the-variants as checked
 use Rattle.block.specs.Block.{checkedBlock, internal}
 use Rattle.block.specs.Tried.{testRules}
 use Rattle.block.proofs.KeyFaults.{test-tells}
+use Rattle.edition.specs.declared.Edition.{Edition}
 use Rattle.node.specs.Content.{Content, bytes, absent, refused, numbersIn, Kids, all, fault, kidsOf, nodeContent}
 use Rattle.node.specs.Tried.{sumRules, dataTreeRules, passedRules, dataBlockRules, foundRules, contentRules, bufferRules, dataRules}
 
-module _ (image : List ℕ) where
+module _ (E : Edition) (image : List ℕ) where
   -- of either tree
   abbrev pub EitherTree : Refusal → Type 0
-  EitherTree r = KeyFault nbt image r ⊎ KeyFault bbt image r
+  EitherTree r = KeyFault (E .nodes) image r ⊎ KeyFault (E .blocks) image r
 
   sum-quiet : (offset : ℕ) (g : List ℕ) (kids : Kids) → Quiet (sumRules offset g kids)
   unfolding sumRules
@@ -48,33 +48,33 @@ module _ (image : List ℕ) where
   none-tell : KeysTell EitherTree []
   none-tell = quiet-tell EitherTree [] tt
 
-  tested-tell : (number : ℕ) → KeysTell EitherTree (testRules image number)
-  tested-tell number r f k = inr (test-tells image number r f k)
+  tested-tell : (number : ℕ) → KeysTell EitherTree (testRules E image number)
+  tested-tell number r f k = inr (test-tells E image number r f k)
 
-  tree-tell : (offset : ℕ) (g : List ℕ) → KeysTell EitherTree (dataTreeRules image offset g)
+  tree-tell : (offset : ℕ) (g : List ℕ) → KeysTell EitherTree (dataTreeRules E image offset g)
   unfolding dataTreeRules
   tree-tell offset g =
       append-tell EitherTree (_ ∷ []) _ (quiet-tell EitherTree (_ ∷ []) (refl, tt))
-      (append-tell EitherTree _ _ (joined-tell EitherTree (testRules image) (numbersIn g) tested-tell) (quiet-tell EitherTree _ (sum-quiet offset g (kidsOf image (numbersIn g)))))
+      (append-tell EitherTree _ _ (joined-tell EitherTree (testRules E image) (numbersIn (E .tree) g) tested-tell) (quiet-tell EitherTree _ (sum-quiet offset g (kidsOf E image (numbersIn (E .tree) g)))))
 
-  passed-tell : (found : Checked) → KeysTell EitherTree (passedRules image found)
+  passed-tell : (found : Checked) → KeysTell EitherTree (passedRules E image found)
   unfolding passedRules
   passed-tell (checked.Block b) = cond-tell (internal (b .block)) _ [] (tree-tell (b .offset) (part image (b .offset) (b .size))) none-tell
   passed-tell (checked.Refused r) = none-tell
 
-  block-tell : (number : ℕ) → KeysTell EitherTree (dataBlockRules image number)
+  block-tell : (number : ℕ) → KeysTell EitherTree (dataBlockRules E image number)
   unfolding dataBlockRules
-  block-tell number = cond-tell (eqb (cleared number) 0) [] _ none-tell (append-tell EitherTree _ _ (tested-tell number) (passed-tell (checkedBlock image number)))
+  block-tell number = cond-tell (eqb (cleared number) 0) [] _ none-tell (append-tell EitherTree _ _ (tested-tell number) (passed-tell (checkedBlock E image number)))
 
-  found-tell : (found : FoundNode) → KeysTell EitherTree (foundRules image found)
+  found-tell : (found : FoundNode) → KeysTell EitherTree (foundRules E image found)
   unfolding foundRules
   found-tell (node.Found n pages) = block-tell (n .block)
   found-tell (node.Absent pages) = none-tell
   found-tell (node.Refused r) = none-tell
 
-  pub data-tells : (number space : ℕ) → KeysTell EitherTree (dataRules image number space)
+  pub data-tells : (number space : ℕ) → KeysTell EitherTree (dataRules E image number space)
   unfolding dataRules contentRules
   data-tells number space =
       append-tell EitherTree _ _
-      (append-tell EitherTree _ _ (λ r f k. inl (search-tells nbt image Equal number r f k)) (found-tell (nodeOf image number)))
-      (quiet-tell EitherTree _ (buffer-quiet (nodeContent image number) space))
+      (append-tell EitherTree _ _ (λ r f k. inl (search-tells (E .nodes) image Equal number r f k)) (found-tell (nodeOf (E .nodes) image number)))
+      (quiet-tell EitherTree _ (buffer-quiet (nodeContent E image number) space))

@@ -13,6 +13,7 @@ use Rattle.block.specs.declared.Checked.{Checked}
 use Rattle.block.specs.declared.Checked.the-variants as checked
 use Rattle.block.specs.Block.{checkedBlock, blockBytes}
 use Rattle.block.proofs.BlockLaws.{checked-inside, bytes-length}
+use Rattle.edition.specs.declared.Edition.{Edition}
 use Rattle.node.specs.declared.Measured.{Measured}
 use Rattle.node.specs.declared.Measured.the-variants as measured
 use Rattle.node.specs.Content.{Kids, all, fault, andKids, kidsOf, total}
@@ -39,22 +40,22 @@ unfolding measuredIn andKids addTo total
 sum-kids b (all bs) = refl
 sum-kids b (fault r) = refl
 
-module _ (image : List ℕ) (n : ℕ) (ns : List ℕ) (sum : ℕ) where
-  pub measure-on : (b : Listed) → checkedBlock image n ≡ checked.Block b
-      → addTo sum (measuredIn (kidsOf image (n ∷ ns))) ≡ addTo (sum + b .size) (measuredIn (kidsOf image ns))
+module _ (E : Edition) (image : List ℕ) (n : ℕ) (ns : List ℕ) (sum : ℕ) where
+  pub measure-on : (b : Listed) → checkedBlock E image n ≡ checked.Block b
+      → addTo sum (measuredIn (kidsOf E image (n ∷ ns))) ≡ addTo (sum + b .size) (measuredIn (kidsOf E image ns))
   unfolding kidsOf
   measure-on b e =
-      ap (λ (c : Checked). addTo sum (measuredIn (andKids c (kidsOf image ns)))) e
-      ∙ ap (addTo sum) (sum-kids b (kidsOf image ns)) ∙ sym (add-add sum (b .size) (measuredIn (kidsOf image ns)))
+      ap (λ (c : Checked). addTo sum (measuredIn (andKids c (kidsOf E image ns)))) e
+      ∙ ap (addTo sum) (sum-kids b (kidsOf E image ns)) ∙ sym (add-add sum (b .size) (measuredIn (kidsOf E image ns)))
 
-  pub measure-ends : (c : Checked) (r : Refusal) → c ≡ checkedBlock image n → c ≡ checked.Refused r
-      → refusedIn c ≡ addTo sum (measuredIn (kidsOf image (n ∷ ns)))
+  pub measure-ends : (c : Checked) (r : Refusal) → c ≡ checkedBlock E image n → c ≡ checked.Refused r
+      → refusedIn c ≡ addTo sum (measuredIn (kidsOf E image (n ∷ ns)))
   unfolding kidsOf andKids measuredIn addTo refusedIn
-  measure-ends c r e q = ap refusedIn q ∙ sym (ap (λ (x : Checked). addTo sum (measuredIn (andKids x (kidsOf image ns)))) (sym e ∙ q))
+  measure-ends c r e q = ap refusedIn q ∙ sym (ap (λ (x : Checked). addTo sum (measuredIn (andKids x (kidsOf E image ns)))) (sym e ∙ q))
 
-pub measure-done : (image ns : List ℕ) (sum : ℕ) → ns ≡ [] → measured.Sum sum ≡ addTo sum (measuredIn (kidsOf image ns))
+pub measure-done : (E : Edition) (image ns : List ℕ) (sum : ℕ) → ns ≡ [] → measured.Sum sum ≡ addTo sum (measuredIn (kidsOf E image ns))
 unfolding kidsOf measuredIn addTo total
-measure-done image ns sum e = sym (ap (λ (xs : List ℕ). addTo sum (measuredIn (kidsOf image xs))) e ∙ ap measured.Sum (add-zero sum))
+measure-done E image ns sum e = sym (ap (λ (xs : List ℕ). addTo sum (measuredIn (kidsOf E image xs))) e ∙ ap measured.Sum (add-zero sum))
 
 -- where the children come to a list, each number is listed as the block beside it
 and-kids : (c : Checked) (k : Kids) (P : Kids → Type 0) → ((r : Refusal) → P (fault r))
@@ -65,47 +66,47 @@ and-kids (checked.Block b) (fault r) P f g = f r
 and-kids (checked.Refused r) k P f g = f r
 
 -- what a list of children that are all there says
-pub Says : List ℕ → List ℕ → Kids → Type 0
-Says image ns (all bs) = ListedAs image ns bs
-Says image ns (fault r) = Unit {0}
+pub Says : Edition → List ℕ → List ℕ → Kids → Type 0
+Says E image ns (all bs) = ListedAs E image ns bs
+Says E image ns (fault r) = Unit {0}
 
-says : (image ns : List ℕ) (k : Kids) → kidsOf image ns ≡ k → Says image ns k
+says : (E : Edition) (image ns : List ℕ) (k : Kids) → kidsOf E image ns ≡ k → Says E image ns k
 unfolding kidsOf Says
-says image [] k e = subst (Says image []) e none
-says image (n ∷ ns) k e =
-    subst (Says image (n ∷ ns)) e
-    (and-kids (checkedBlock image n) (kidsOf image ns) (Says image (n ∷ ns)) (λ r. tt) (λ b bs q w. one q (says image ns (all bs) w)))
+says E image [] k e = subst (Says E image []) e none
+says E image (n ∷ ns) k e =
+    subst (Says E image (n ∷ ns)) e
+    (and-kids (checkedBlock E image n) (kidsOf E image ns) (Says E image (n ∷ ns)) (λ r. tt) (λ b bs q w. one q (says E image ns (all bs) w)))
 
-pub listing-of : (image ns : List ℕ) (bs : List Listed) → kidsOf image ns ≡ all bs → ListedAs image ns bs
+pub listing-of : (E : Edition) (image ns : List ℕ) (bs : List Listed) → kidsOf E image ns ≡ all bs → ListedAs E image ns bs
 unfolding Says
-listing-of image ns bs e = says image ns (all bs) e
+listing-of E image ns bs e = says E image ns (all bs) e
 
-pub of-listing : (image ns : List ℕ) (bs : List Listed) → ListedAs image ns bs → kidsOf image ns ≡ all bs
+pub of-listing : (E : Edition) (image ns : List ℕ) (bs : List Listed) → ListedAs E image ns bs → kidsOf E image ns ≡ all bs
 unfolding kidsOf andKids
-of-listing image [] [] none = refl
-of-listing image (n ∷ ns) (b ∷ bs) (one q l) = ap₂ andKids q (of-listing image ns bs l)
+of-listing E image [] [] none = refl
+of-listing E image (n ∷ ns) (b ∷ bs) (one q l) = ap₂ andKids q (of-listing E image ns bs l)
 
-pub all-listed : (image ns : List ℕ) (bs : List Listed) → ListedAs image ns bs → AllListed image ns
-all-listed image [] [] none = tt
-all-listed image (n ∷ ns) (b ∷ bs) (one q l) = (record { block = b; is = q }, all-listed image ns bs l)
+pub all-listed : (E : Edition) (image ns : List ℕ) (bs : List Listed) → ListedAs E image ns bs → AllListed E image ns
+all-listed E image [] [] none = tt
+all-listed E image (n ∷ ns) (b ∷ bs) (one q l) = (record { block = b; is = q }, all-listed E image ns bs l)
 
 -- the bytes under the numbers are those of the blocks, and as many as the sum of sizes
-pub bytes-here : (image : List ℕ) (n : ℕ) (b : Listed) → checkedBlock image n ≡ checked.Block b → bytesAt image n ≡ blockBytes image b
+pub bytes-here : (E : Edition) (image : List ℕ) (n : ℕ) (b : Listed) → checkedBlock E image n ≡ checked.Block b → bytesAt E image n ≡ blockBytes image b
 unfolding bytesAt bytesIn
-bytes-here image n b e = ap (bytesIn image) e
+bytes-here E image n b e = ap (bytesIn image) e
 
-pub joined-blocks : (image ns : List ℕ) (bs : List Listed) → ListedAs image ns bs → joined (bytesAt image) ns ≡ joined (blockBytes image) bs
-joined-blocks image [] [] none = joined-nil (bytesAt image) ∙ sym (joined-nil (blockBytes image))
-joined-blocks image (n ∷ ns) (b ∷ bs) (one q l) =
-    joined-more (bytesAt image) n ns ∙ ap₂ _++_ (bytes-here image n b q) (joined-blocks image ns bs l) ∙ sym (joined-more (blockBytes image) b bs)
+pub joined-blocks : (E : Edition) (image ns : List ℕ) (bs : List Listed) → ListedAs E image ns bs → joined (bytesAt E image) ns ≡ joined (blockBytes image) bs
+joined-blocks E image [] [] none = joined-nil (bytesAt E image) ∙ sym (joined-nil (blockBytes image))
+joined-blocks E image (n ∷ ns) (b ∷ bs) (one q l) =
+    joined-more (bytesAt E image) n ns ∙ ap₂ _++_ (bytes-here E image n b q) (joined-blocks E image ns bs l) ∙ sym (joined-more (blockBytes image) b bs)
 
-pub joined-length : (image ns : List ℕ) (bs : List Listed) → ListedAs image ns bs → length (joined (blockBytes image) bs) ≡ total bs
+pub joined-length : (E : Edition) (image ns : List ℕ) (bs : List Listed) → ListedAs E image ns bs → length (joined (blockBytes image) bs) ≡ total bs
 unfolding total
-joined-length image [] [] none = ap length (joined-nil (blockBytes image))
-joined-length image (n ∷ ns) (b ∷ bs) (one q l) =
+joined-length E image [] [] none = ap length (joined-nil (blockBytes image))
+joined-length E image (n ∷ ns) (b ∷ bs) (one q l) =
     ap length (joined-more (blockBytes image) b bs)
     ∙ length-append (blockBytes image b) (joined (blockBytes image) bs)
-    ∙ ap₂ _+_ (bytes-length image b (checked-inside image n b q)) (joined-length image ns bs l)
+    ∙ ap₂ _+_ (bytes-length image b (checked-inside E image n b q)) (joined-length E image ns bs l)
 
 -- the blocks of children that are all there
 pub kidsIn : Kids → List Listed

@@ -28,6 +28,8 @@ use Rattle.block.specs.declared.Checked.{Checked}
 use Rattle.block.specs.declared.Checked.the-variants as checked
 use Rattle.laws.specs.Front.{fronted}
 use Rattle.block.specs.Block.{checkedBlock, internal, blockBytes}
+use Rattle.edition.specs.declared.Edition.{Edition}
+use Rattle.edition.specs.declared.RootBlock.{RootBlock}
 use Rattle.node.specs.declared.NodeRead.{NodeRead}
 use Rattle.node.specs.declared.NodeRead.the-variants as read
 use Rattle.node.specs.Steps.{measuredIn, refusedSum, refusedRead, goneRead, AllListed, bytesAt}
@@ -70,23 +72,23 @@ pub outcome-of : (c d : Content) (out : List ℕ) (r : NodeRead) (after : List �
 outcome-of c d out r after e o = rw e o
 
 -- the root block's shape, part by part
-pub record Shape (g : List ℕ) : Type 0 where
+pub record Shape (d : RootBlock) (g : List ℕ) : Type 0 where
   pub long : 8 ≤ length g
   pub first : (eqb (byte g 0) 1 ≡ true) × (eqb (byte g 1) 1 ≡ true)
   pub some : 1 ≤ countIn g
-  pub few : countIn g ≤ 1021
-  pub size : length g ≡ 8 + 8 * countIn g
-  pub outer : noneInternal (numbersIn g) ≡ true
+  pub few : countIn g ≤ d .most
+  pub size : length g ≡ 8 + countIn g * d .word
+  pub outer : noneInternal (numbersIn d g) ≡ true
 
-pub shape-of : (g : List ℕ) → shapeFits g ≡ true → Shape g
+pub shape-of : (d : RootBlock) (g : List ℕ) → shapeFits d g ≡ true → Shape d g
 unfolding shapeFits
-shape-of g e =
+shape-of t g e =
     let a = leb 8 (length g) in
     let b = eqb (byte g 0) 1 in
     let c = eqb (byte g 1) 1 in
     let d = leb 1 (countIn g) in
-    let f = leb (countIn g) 1021 in
-    let h = eqb (length g) (8 + 8 * countIn g) in
+    let f = leb (countIn g) (t .most) in
+    let h = eqb (length g) (8 + countIn g * t .word) in
     let v = and-both (a && b && c && d && f && h) _ e in
     let w = and-both (a && b && c && d && f) h (v .0) in
     let x = and-both (a && b && c && d) f (w .0) in
@@ -103,109 +105,109 @@ shape-of g e =
     }
 
 -- a data tree
-module _ (image : List ℕ) (offset : ℕ) (g : List ℕ) where
-  pub tree-shapeless : shapeFits g ≡ false → treeContent image offset g ≡ refused (DataTree at offset)
+module _ (E : Edition) (image : List ℕ) (offset : ℕ) (g : List ℕ) where
+  pub tree-shapeless : shapeFits (E .tree) g ≡ false → treeContent E image offset g ≡ refused (DataTree at offset)
   unfolding treeContent
   tree-shapeless e = test-ends refused _ _ _ e
 
-  module _ (ok : shapeFits g ≡ true) where
-    tree-on : (k : Kids) → kidsOf image (numbersIn g) ≡ k → treeContent image offset g ≡ gathered image offset g k
+  module _ (ok : shapeFits (E .tree) g ≡ true) where
+    tree-on : (k : Kids) → kidsOf E image (numbersIn (E .tree) g) ≡ k → treeContent E image offset g ≡ gathered image offset g k
     unfolding treeContent
     tree-on k e = test-goes refused _ _ _ ok ∙ ap (gathered image offset g) e
 
-    pub tree-fault : (r : Refusal) → kidsOf image (numbersIn g) ≡ fault r → treeContent image offset g ≡ refused r
+    pub tree-fault : (r : Refusal) → kidsOf E image (numbersIn (E .tree) g) ≡ fault r → treeContent E image offset g ≡ refused r
     unfolding gathered
     tree-fault r e = tree-on (fault r) e
 
-    pub tree-other-sum : (bs : List Listed) → kidsOf image (numbersIn g) ≡ all bs → (total bs ≡ field g 4 4 → ⊥) → treeContent image offset g ≡ refused (DataTree at offset)
+    pub tree-other-sum : (bs : List Listed) → kidsOf E image (numbersIn (E .tree) g) ≡ all bs → (total bs ≡ field g 4 4 → ⊥) → treeContent E image offset g ≡ refused (DataTree at offset)
     unfolding gathered
     tree-other-sum bs e n = tree-on (all bs) e ∙ test-ends refused _ _ _ (ne-eqb (total bs) (field g 4 4) n)
 
-    pub tree-bytes : (bs : List Listed) → kidsOf image (numbersIn g) ≡ all bs → total bs ≡ field g 4 4 → treeContent image offset g ≡ bytes (joined (blockBytes image) bs)
+    pub tree-bytes : (bs : List Listed) → kidsOf E image (numbersIn (E .tree) g) ≡ all bs → total bs ≡ field g 4 4 → treeContent E image offset g ≡ bytes (joined (blockBytes image) bs)
     unfolding gathered
     tree-bytes bs e q = tree-on (all bs) e ∙ test-goes refused _ _ _ (eq-eqb (total bs) (field g 4 4) q)
 
 -- children whose tests have passed, with the sum s of their sizes
-pub record Passed (image g : List ℕ) (count s : ℕ) : Type 0 where
+pub record Passed (E : Edition) (image g : List ℕ) (count s : ℕ) : Type 0 where
   pub kids : List Listed
-  pub are : kidsOf image (numbersIn g) ≡ all kids
+  pub are : kidsOf E image (numbersIn (E .tree) g) ≡ all kids
   pub sum : total kids ≡ s
-  pub listed : AllListed image (numbersFrom g 0 count)
-  pub joins : joined (bytesAt image) (numbersFrom g 0 count) ≡ joined (blockBytes image) kids
+  pub listed : AllListed E image (numbersFrom (E .tree) g 0 count)
+  pub joins : joined (bytesAt E image) (numbersFrom (E .tree) g 0 count) ≡ joined (blockBytes image) kids
   pub long : length (joined (blockBytes image) kids) ≡ s
 
-module _ (image g : List ℕ) (count : ℕ) (m : Measured) (counted : count ≡ countIn g) (is : m ≡ measuredIn (kidsOf image (numbersFrom g 0 count))) where
-  numbers-are : numbersFrom g 0 count ≡ numbersIn g
+module _ (E : Edition) (image g : List ℕ) (count : ℕ) (m : Measured) (counted : count ≡ countIn g) (is : m ≡ measuredIn (kidsOf E image (numbersFrom (E .tree) g 0 count))) where
+  numbers-are : numbersFrom (E .tree) g 0 count ≡ numbersIn (E .tree) g
   unfolding numbersIn
-  numbers-are = ap (numbersFrom g 0) counted
+  numbers-are = ap (numbersFrom (E .tree) g 0) counted
 
-  measured-all : m ≡ measuredIn (kidsOf image (numbersIn g))
-  measured-all = is ∙ ap (λ (ns : List ℕ). measuredIn (kidsOf image ns)) numbers-are
+  measured-all : m ≡ measuredIn (kidsOf E image (numbersIn (E .tree) g))
+  measured-all = is ∙ ap (λ (ns : List ℕ). measuredIn (kidsOf E image ns)) numbers-are
 
-  pub failed : (r : Refusal) → m ≡ measured.Refused r → kidsOf image (numbersIn g) ≡ fault r
-  failed r e = fault-of (kidsOf image (numbersIn g)) r (sym measured-all ∙ e)
+  pub failed : (r : Refusal) → m ≡ measured.Refused r → kidsOf E image (numbersIn (E .tree) g) ≡ fault r
+  failed r e = fault-of (kidsOf E image (numbersIn (E .tree) g)) r (sym measured-all ∙ e)
 
-  pub passed : (s : ℕ) → m ≡ measured.Sum s → Passed image g count s
+  pub passed : (s : ℕ) → m ≡ measured.Sum s → Passed E image g count s
   passed s e =
-      let k = sum-of (kidsOf image (numbersIn g)) s (sym measured-all ∙ e) in
-      let l = listing-of image (numbersIn g) (kidsIn (kidsOf image (numbersIn g))) (k .0) in
+      let k = sum-of (kidsOf E image (numbersIn (E .tree) g)) s (sym measured-all ∙ e) in
+      let l = listing-of E image (numbersIn (E .tree) g) (kidsIn (kidsOf E image (numbersIn (E .tree) g))) (k .0) in
       record {
-        kids = kidsIn (kidsOf image (numbersIn g));
+        kids = kidsIn (kidsOf E image (numbersIn (E .tree) g));
         are = k .0;
         sum = k .1;
-        listed = subst (AllListed image) (sym numbers-are) (all-listed image (numbersIn g) _ l);
-        joins = ap (joined (bytesAt image)) numbers-are ∙ joined-blocks image (numbersIn g) _ l;
-        long = joined-length image (numbersIn g) _ l ∙ k .1;
+        listed = subst (AllListed E image) (sym numbers-are) (all-listed E image (numbersIn (E .tree) g) _ l);
+        joins = ap (joined (bytesAt E image)) numbers-are ∙ joined-blocks E image (numbersIn (E .tree) g) _ l;
+        long = joined-length E image (numbersIn (E .tree) g) _ l ∙ k .1;
       }
 
 -- a data block
-module _ (image : List ℕ) (b : Listed) where
-  pub block-tree : internal (b .block) ≡ true → blockContent image b ≡ treeContent image (b .offset) (part image (b .offset) (b .size))
+module _ (E : Edition) (image : List ℕ) (b : Listed) where
+  pub block-tree : internal (b .block) ≡ true → blockContent E image b ≡ treeContent E image (b .offset) (part image (b .offset) (b .size))
   unfolding blockContent
   block-tree e = rw e
 
-  pub block-own : internal (b .block) ≡ false → blockContent image b ≡ bytes (blockBytes image b)
+  pub block-own : internal (b .block) ≡ false → blockContent E image b ≡ bytes (blockBytes image b)
   unfolding blockContent
   block-own e = rw e
 
 -- a data block's number
-module _ (image : List ℕ) (number : ℕ) where
-  pub data-none : cleared number ≡ 0 → dataOf image number ≡ bytes []
+module _ (E : Edition) (image : List ℕ) (number : ℕ) where
+  pub data-none : cleared number ≡ 0 → dataOf E image number ≡ bytes []
   unfolding dataOf
   data-none e = rw (eq-eqb (cleared number) 0 e)
 
-  pub data-refused : (r : Refusal) → (cleared number ≡ 0 → ⊥) → checkedBlock image number ≡ checked.Refused r → dataOf image number ≡ refused r
+  pub data-refused : (r : Refusal) → (cleared number ≡ 0 → ⊥) → checkedBlock E image number ≡ checked.Refused r → dataOf E image number ≡ refused r
   unfolding dataOf checkedContent
-  data-refused r n e = rw (ne-eqb (cleared number) 0 n) (ap (checkedContent image) e)
+  data-refused r n e = rw (ne-eqb (cleared number) 0 n) (ap (checkedContent E image) e)
 
-  pub data-block : (b : Listed) → (cleared number ≡ 0 → ⊥) → checkedBlock image number ≡ checked.Block b → dataOf image number ≡ blockContent image b
+  pub data-block : (b : Listed) → (cleared number ≡ 0 → ⊥) → checkedBlock E image number ≡ checked.Block b → dataOf E image number ≡ blockContent E image b
   unfolding dataOf checkedContent
-  data-block b n e = rw (ne-eqb (cleared number) 0 n) (ap (checkedContent image) e)
+  data-block b n e = rw (ne-eqb (cleared number) 0 n) (ap (checkedContent E image) e)
 
   -- a node
-  pub node-found : (n : Node) (pages : ℕ) → nodeOf image number ≡ node.Found n pages → nodeContent image number ≡ dataOf image (n .block)
+  pub node-found : (n : Node) (pages : ℕ) → nodeOf (E .nodes) image number ≡ node.Found n pages → nodeContent E image number ≡ dataOf E image (n .block)
   unfolding nodeContent foundContent
-  node-found n pages e = ap (foundContent image) e
+  node-found n pages e = ap (foundContent E image) e
 
-  pub node-absent : (pages : ℕ) → nodeOf image number ≡ node.Absent pages → nodeContent image number ≡ absent
+  pub node-absent : (pages : ℕ) → nodeOf (E .nodes) image number ≡ node.Absent pages → nodeContent E image number ≡ absent
   unfolding nodeContent foundContent
-  node-absent pages e = ap (foundContent image) e
+  node-absent pages e = ap (foundContent E image) e
 
-  pub node-refused : (r : Refusal) → nodeOf image number ≡ node.Refused r → nodeContent image number ≡ refused r
+  pub node-refused : (r : Refusal) → nodeOf (E .nodes) image number ≡ node.Refused r → nodeContent E image number ≡ refused r
   unfolding nodeContent foundContent
-  node-refused r e = ap (foundContent image) e
+  node-refused r e = ap (foundContent E image) e
 
 -- a lookup that did not find the node: its variant is one of the other two
 not-first : OneOf (1 ∷ 2 ∷ []) 0 → ⊥
 not-first (inl e) = omega arith
 not-first (inr e) = omega arith
 
-pub gone-outcome : (image : List ℕ) (number : ℕ) (f : FoundNode) (out : List ℕ) → f ≡ nodeOf image number → OneOf (1 ∷ 2 ∷ []) (tagOf the-type f)
-    → Outcome (nodeContent image number) out (goneRead f) out
+pub gone-outcome : (E : Edition) (image : List ℕ) (number : ℕ) (f : FoundNode) (out : List ℕ) → f ≡ nodeOf (E .nodes) image number → OneOf (1 ∷ 2 ∷ []) (tagOf the-type f)
+    → Outcome (nodeContent E image number) out (goneRead f) out
 unfolding goneRead
-gone-outcome image number (node.Found n pages) out e k = absurd (not-first k)
-gone-outcome image number (node.Absent pages) out e k = outcome-of absent _ out _ out (node-absent image number pages (sym e)) (absent-outcome out)
-gone-outcome image number (node.Refused r) out e k = outcome-of (refused r) _ out _ out (node-refused image number r (sym e)) (refused-outcome r out)
+gone-outcome E image number (node.Found n pages) out e k = absurd (not-first k)
+gone-outcome E image number (node.Absent pages) out e k = outcome-of absent _ out _ out (node-absent E image number pages (sym e)) (absent-outcome out)
+gone-outcome E image number (node.Refused r) out e k = outcome-of (refused r) _ out _ out (node-refused E image number r (sym e)) (refused-outcome r out)
 
 pub refused-sum-is : (m : Measured) (r : Refusal) → m ≡ measured.Refused r → refusedSum m ≡ read.Refused r
 unfolding refusedSum

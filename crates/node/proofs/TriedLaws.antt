@@ -16,7 +16,6 @@ use Rattle.keys.specs.Records.{cleared}
 use Rattle.keys.specs.Search.{joined}
 use Rattle.search.specs.Answer as search
 use Rattle.search.proofs.Tried.{verdictOf}
-use Rattle.page.specs.Layout.{nbt}
 use Rattle.tree.specs.Lookup.{lookup, searchRules}
 use Rattle.tree.specs.Answers.{shown, asNode, nodeOf}
 use Rattle.tree.proofs.InOrder.{search-tried}
@@ -25,6 +24,7 @@ use Rattle.block.specs.declared.Checked.the-variants as checked
 use Rattle.block.specs.Block.{checkedBlock, internal, blockBytes}
 use Rattle.block.specs.Tried.{testRules}
 use Rattle.block.proofs.TriedLaws.{verdictIn, test-tried}
+use Rattle.edition.specs.declared.Edition.{Edition}
 use Rattle.node.specs.declared.NodeRead.{NodeRead}
 use Rattle.node.specs.declared.NodeRead.the-variants as read
 use Rattle.node.specs.Content.{Content, bytes, absent, refused, numbersIn, shapeFits, Kids, all, fault, andKids, kidsOf, total, gathered, treeContent, blockContent, checkedContent, dataOf, foundContent, nodeContent, answerTo}
@@ -55,7 +55,7 @@ some-bytes : (s : List ℕ) → contentVerdict (bytes s) ≡ inOrder []
 unfolding contentVerdict inOrder
 some-bytes s = refl
 
-module _ (image : List ℕ) where
+module _ (E : Edition) (image : List ℕ) where
   -- each child in turn
   kid-tried : (c : Checked) (kids : Kids) → (verdictIn c then kidsVerdict kids) ≡ kidsVerdict (andKids c kids)
   unfolding verdictIn kidsVerdict andKids after
@@ -63,14 +63,14 @@ module _ (image : List ℕ) where
   kid-tried (checked.Block b) (fault r) = refl
   kid-tried (checked.Refused r) kids = refl
 
-  kids-tried : (ns : List ℕ) → inOrder (joined (testRules image) ns) ≡ kidsVerdict (kidsOf image ns)
+  kids-tried : (ns : List ℕ) → inOrder (joined (testRules E image) ns) ≡ kidsVerdict (kidsOf E image ns)
   unfolding joined kidsOf kidsVerdict inOrder
   kids-tried [] = refl
   kids-tried (n ∷ ns) =
-      in-order-append (testRules image n) (joined (testRules image) ns)
-      ∙ ap (λ v. v then inOrder (joined (testRules image) ns)) (test-tried image n)
-      ∙ ap (λ v. verdictIn (checkedBlock image n) then v) (kids-tried ns)
-      ∙ kid-tried (checkedBlock image n) (kidsOf image ns)
+      in-order-append (testRules E image n) (joined (testRules E image) ns)
+      ∙ ap (λ v. v then inOrder (joined (testRules E image) ns)) (test-tried E image n)
+      ∙ ap (λ v. verdictIn (checkedBlock E image n) then v) (kids-tried ns)
+      ∙ kid-tried (checkedBlock E image n) (kidsOf E image ns)
 
   sum-tried : (offset : ℕ) (g : List ℕ) (kids : Kids) → (kidsVerdict kids then inOrder (sumRules offset g kids)) ≡ contentVerdict (gathered image offset g kids)
   unfolding kidsVerdict sumRules gathered contentVerdict after inOrder demand
@@ -81,49 +81,49 @@ module _ (image : List ℕ) where
       by false = refl
   sum-tried offset g (fault r) = refl
 
-  tree-tried : (offset : ℕ) (g : List ℕ) → inOrder (dataTreeRules image offset g) ≡ contentVerdict (treeContent image offset g)
+  tree-tried : (offset : ℕ) (g : List ℕ) → inOrder (dataTreeRules E image offset g) ≡ contentVerdict (treeContent E image offset g)
   unfolding dataTreeRules treeContent inOrder
   tree-tried offset g =
-      ap (λ v. demand (shapeFits g) (DataTree at offset) then v)
-      (in-order-append (joined (testRules image) (numbersIn g)) (sumRules offset g (kidsOf image (numbersIn g)))
-      ∙ ap (λ v. v then inOrder (sumRules offset g (kidsOf image (numbersIn g)))) (kids-tried (numbersIn g))
-      ∙ sum-tried offset g (kidsOf image (numbersIn g)))
-      ∙ sym (content-after (demand (shapeFits g) (DataTree at offset)) _)
+      ap (λ v. demand (shapeFits (E .tree) g) (DataTree at offset) then v)
+      (in-order-append (joined (testRules E image) (numbersIn (E .tree) g)) (sumRules offset g (kidsOf E image (numbersIn (E .tree) g)))
+      ∙ ap (λ v. v then inOrder (sumRules offset g (kidsOf E image (numbersIn (E .tree) g)))) (kids-tried (numbersIn (E .tree) g))
+      ∙ sum-tried offset g (kidsOf E image (numbersIn (E .tree) g)))
+      ∙ sym (content-after (demand (shapeFits (E .tree) g) (DataTree at offset)) _)
 
-  passed-tried : (c : Checked) → (verdictIn c then inOrder (passedRules image c)) ≡ contentVerdict (checkedContent image c)
+  passed-tried : (c : Checked) → (verdictIn c then inOrder (passedRules E image c)) ≡ contentVerdict (checkedContent E image c)
   unfolding verdictIn passedRules checkedContent blockContent contentVerdict after
   passed-tried (checked.Block b) = by (internal (b .block))
     where
-      by : (i : Bool) → inOrder (cond i (dataTreeRules image (b .offset) (part image (b .offset) (b .size))) [])
-          ≡ contentVerdict (cond i (treeContent image (b .offset) (part image (b .offset) (b .size))) (bytes (blockBytes image b)))
+      by : (i : Bool) → inOrder (cond i (dataTreeRules E image (b .offset) (part image (b .offset) (b .size))) [])
+          ≡ contentVerdict (cond i (treeContent E image (b .offset) (part image (b .offset) (b .size))) (bytes (blockBytes image b)))
       by true = tree-tried (b .offset) (part image (b .offset) (b .size))
       by false = sym (some-bytes (blockBytes image b))
   passed-tried (checked.Refused r) = refl
 
-  block-tried : (number : ℕ) → inOrder (dataBlockRules image number) ≡ contentVerdict (dataOf image number)
+  block-tried : (number : ℕ) → inOrder (dataBlockRules E image number) ≡ contentVerdict (dataOf E image number)
   unfolding dataBlockRules dataOf
   block-tried number = by (eqb (cleared number) 0)
     where
-      by : (z : Bool) → inOrder (cond z [] (testRules image number ++ passedRules image (checkedBlock image number)))
-          ≡ contentVerdict (cond z (bytes []) (checkedContent image (checkedBlock image number)))
+      by : (z : Bool) → inOrder (cond z [] (testRules E image number ++ passedRules E image (checkedBlock E image number)))
+          ≡ contentVerdict (cond z (bytes []) (checkedContent E image (checkedBlock E image number)))
       by true = sym (some-bytes [])
       by false =
-          in-order-append (testRules image number) (passedRules image (checkedBlock image number))
-          ∙ ap (λ v. v then inOrder (passedRules image (checkedBlock image number))) (test-tried image number)
-          ∙ passed-tried (checkedBlock image number)
+          in-order-append (testRules E image number) (passedRules E image (checkedBlock E image number))
+          ∙ ap (λ v. v then inOrder (passedRules E image (checkedBlock E image number))) (test-tried E image number)
+          ∙ passed-tried (checkedBlock E image number)
 
-  found-tried : (a : search.Answer (List ℕ)) → (verdictOf a then inOrder (foundRules image (asNode (shown nbt a)))) ≡ contentVerdict (foundContent image (asNode (shown nbt a)))
+  found-tried : (a : search.Answer (List ℕ)) → (verdictOf a then inOrder (foundRules E image (asNode (shown (E .nodes) a)))) ≡ contentVerdict (foundContent E image (asNode (shown (E .nodes) a)))
   unfolding verdictOf shown asNode foundRules foundContent contentVerdict after inOrder
   found-tried (search.found e n) = block-tried _
   found-tried (search.absent n) = refl
   found-tried (search.refused r) = refl
 
-  content-tried : (number : ℕ) → inOrder (contentRules image number) ≡ contentVerdict (nodeContent image number)
+  content-tried : (number : ℕ) → inOrder (contentRules E image number) ≡ contentVerdict (nodeContent E image number)
   unfolding contentRules nodeContent nodeOf
   content-tried number =
-      in-order-append (searchRules Equal nbt image number) (foundRules image (nodeOf image number))
-      ∙ ap (λ v. v then inOrder (foundRules image (nodeOf image number))) (search-tried Equal nbt image number)
-      ∙ found-tried (lookup nbt image number)
+      in-order-append (searchRules Equal (E .nodes) image number) (foundRules E image (nodeOf (E .nodes) image number))
+      ∙ ap (λ v. v then inOrder (foundRules E image (nodeOf (E .nodes) image number))) (search-tried Equal (E .nodes) image number)
+      ∙ found-tried (lookup (E .nodes) image number)
 
   buffer-tried : (c : Content) (space : ℕ) → (contentVerdict c then inOrder (bufferRules c space)) ≡ readVerdict (answerTo c space)
   unfolding contentVerdict bufferRules answerTo readVerdict after inOrder demand
@@ -135,9 +135,9 @@ module _ (image : List ℕ) where
   buffer-tried absent space = refl
   buffer-tried (refused r) space = refl
 
-  pub data-tried : (number space : ℕ) → inOrder (dataRules image number space) ≡ readVerdict (answerTo (nodeContent image number) space)
+  pub data-tried : (number space : ℕ) → inOrder (dataRules E image number space) ≡ readVerdict (answerTo (nodeContent E image number) space)
   unfolding dataRules
   data-tried number space =
-      in-order-append (contentRules image number) (bufferRules (nodeContent image number) space)
-      ∙ ap (λ v. v then inOrder (bufferRules (nodeContent image number) space)) (content-tried number)
-      ∙ buffer-tried (nodeContent image number) space
+      in-order-append (contentRules E image number) (bufferRules (nodeContent E image number) space)
+      ∙ ap (λ v. v then inOrder (bufferRules (nodeContent E image number) space)) (content-tried number)
+      ∙ buffer-tried (nodeContent E image number) space

@@ -18,6 +18,8 @@ use Rattle.block.specs.declared.Checked.{Checked}
 use Rattle.block.specs.declared.Checked.the-variants as checked
 use Rattle.laws.specs.Front.{fronted}
 use Rattle.block.specs.Block.{checkedBlock, internal, blockBytes}
+use Rattle.edition.specs.declared.Edition.{Edition}
+use Rattle.edition.specs.declared.RootBlock.{RootBlock}
 use Rattle.node.specs.declared.NodeRead.{NodeRead}
 use Rattle.node.specs.declared.NodeRead.the-variants as read
 
@@ -27,30 +29,30 @@ pub data Content : Type 0 where
   absent : Content
   refused : Refusal → Content
 
--- of a data tree's root block g: "count c (two bytes at 2)", and its c numbers, eight bytes each from 8
+-- of a data tree's root block g: "count c (two bytes at 2)", and its c numbers from 8, each as wide as the edition has them
 unfoldable pub countIn : List ℕ → ℕ
 countIn g = field g 2 2
 
-unfoldable pub numberAt : List ℕ → ℕ → ℕ
-numberAt g i = field g (8 + 8 * i) 8
+unfoldable pub numberAt : RootBlock → List ℕ → ℕ → ℕ
+numberAt d g i = field g (8 + i * d .word) (d .word)
 
-unfoldable pub numbersFrom : List ℕ → ℕ → ℕ → List ℕ
-numbersFrom g i zero = []
-numbersFrom g i (suc n) = numberAt g i ∷ numbersFrom g (i + 1) n
+unfoldable pub numbersFrom : RootBlock → List ℕ → ℕ → ℕ → List ℕ
+numbersFrom d g i zero = []
+numbersFrom d g i (suc n) = numberAt d g i ∷ numbersFrom d g (i + 1) n
 
-unfoldable pub numbersIn : List ℕ → List ℕ
-numbersIn g = numbersFrom g 0 (countIn g)
+unfoldable pub numbersIn : RootBlock → List ℕ → List ℕ
+numbersIn d g = numbersFrom d g 0 (countIn g)
 
 -- "all c numbers not internal"
 unfoldable pub noneInternal : List ℕ → Bool
 noneInternal [] = true
 noneInternal (n ∷ ns) = not (internal n) && noneInternal ns
 
--- "byte 0 is 1, byte 1 is 1, count c is 1 to 1,021, size is 8 + 8c, all c numbers not internal". A block under 8 bytes has no such shape.
-unfoldable pub shapeFits : List ℕ → Bool
-shapeFits g =
-    leb 8 (length g) && eqb (byte g 0) 1 && eqb (byte g 1) 1 && leb 1 (countIn g) && leb (countIn g) 1021
-    && eqb (length g) (8 + 8 * countIn g) && noneInternal (numbersIn g)
+-- "byte 0 is 1, byte 1 is 1, count c is 1 to 1,021, size is 8 + 8c, all c numbers not internal"; 02, 7/13: "data trees of 8 + 4c bytes, c to 2,043". A block under 8 bytes has no such shape.
+unfoldable pub shapeFits : RootBlock → List ℕ → Bool
+shapeFits d g =
+    leb 8 (length g) && eqb (byte g 0) 1 && eqb (byte g 1) 1 && leb 1 (countIn g) && leb (countIn g) (d .most)
+    && eqb (length g) (8 + countIn g * d .word) && noneInternal (numbersIn d g)
 
 -- "each child, a number 0 too, looked up and tested (12 to 15) in turn": the blocks, or the first refusal
 pub data Kids : Type 0 where
@@ -62,9 +64,9 @@ andKids (checked.Block b) (all bs) = all (b ∷ bs)
 andKids (checked.Block b) (fault r) = fault r
 andKids (checked.Refused r) kids = fault r
 
-unfoldable pub kidsOf : List ℕ → List ℕ → Kids
-kidsOf image [] = all []
-kidsOf image (n ∷ ns) = andKids (checkedBlock image n) (kidsOf image ns)
+unfoldable pub kidsOf : Edition → List ℕ → List ℕ → Kids
+kidsOf E image [] = all []
+kidsOf E image (n ∷ ns) = andKids (checkedBlock E image n) (kidsOf E image ns)
 
 -- "the sum of sizes"
 unfoldable pub total : List Listed → ℕ
@@ -78,29 +80,33 @@ gathered image offset g (all bs) =
     after refused (demand (eqb (total bs) (field g 4 4)) (DataTree at offset)) (bytes (joined (blockBytes image) bs))
 
 -- the data of a data tree whose root block, at this offset, has the bytes g as stored
-unfoldable pub treeContent : List ℕ → ℕ → List ℕ → Content
-treeContent image offset g = after refused (demand (shapeFits g) (DataTree at offset)) (gathered image offset g (kidsOf image (numbersIn g)))
+unfoldable pub treeContent : Edition → List ℕ → ℕ → List ℕ → Content
+treeContent E image offset g = after refused (demand (shapeFits (E .tree) g) (DataTree at offset)) (gathered image offset g (kidsOf E image (numbersIn (E .tree) g)))
 
 -- "Not internal: ... that block, decoded. Internal: ..."
-unfoldable pub blockContent : List ℕ → Listed → Content
-blockContent image b = cond (internal (b .block)) (treeContent image (b .offset) (part image (b .offset) (b .size))) (bytes (blockBytes image b))
+unfoldable pub blockContent : Edition → List ℕ → Listed → Content
+blockContent E image b = cond (internal (b .block)) (treeContent E image (b .offset) (part image (b .offset) (b .size))) (bytes (blockBytes image b))
 
-unfoldable pub checkedContent : List ℕ → Checked → Content
-checkedContent image (checked.Block b) = blockContent image b
-checkedContent image (checked.Refused r) = refused r
+unfoldable pub checkedContent : Edition → List ℕ → Checked → Content
+checkedContent E image (checked.Block b) = blockContent E image b
+checkedContent E image (checked.Refused r) = refused r
 
 -- "Number 0: no bytes. Any other is looked up and tested (12 to 15)." 02, 1/13: "A data block number of 1 counts as 0."
-unfoldable pub dataOf : List ℕ → ℕ → Content
-dataOf image number = cond (eqb (cleared number) 0) (bytes []) (checkedContent image (checkedBlock image number))
+unfoldable pub dataOf : Edition → List ℕ → ℕ → Content
+dataOf E image number = cond (eqb (cleared number) 0) (bytes []) (checkedContent E image (checkedBlock E image number))
 
 -- "Node data: node lookup (absent is answered), then its data block."
-unfoldable pub foundContent : List ℕ → FoundNode → Content
-foundContent image (node.Found n pages) = dataOf image (n .block)
-foundContent image (node.Absent pages) = absent
-foundContent image (node.Refused r) = refused r
+unfoldable pub foundContent : Edition → List ℕ → FoundNode → Content
+foundContent E image (node.Found n pages) = dataOf E image (n .block)
+foundContent E image (node.Absent pages) = absent
+foundContent E image (node.Refused r) = refused r
 
-unfoldable pub nodeContent : List ℕ → ℕ → Content
-nodeContent image number = foundContent image (nodeOf image number)
+unfoldable pub nodeContent : Edition → List ℕ → ℕ → Content
+nodeContent E image number = foundContent E image (nodeOf (E .nodes) image number)
+
+-- how many bytes it has at most: "node data 0 to 8,347,696 bytes"; 02, 7/13: "up to 16,711,740 bytes"
+unfoldable pub mostData : Edition → ℕ
+mostData E = E .tree .most * E .trailer .most
 
 -- the outcome of a read into a buffer of this length: "then 17". "The answer is the length, without a page count."
 unfoldable pub answerTo : Content → ℕ → NodeRead

@@ -9,6 +9,7 @@ use Rattle.block.specs.declared.Checked.the-variants as checked
 use Rattle.block.specs.Block.{checkedBlock, blockBytes}
 use Rattle.tree.specs.declared.FoundNode.{FoundNode}
 use Rattle.tree.specs.declared.FoundNode.the-variants as node
+use Rattle.edition.specs.declared.Edition.{Edition}
 use Rattle.node.specs.declared.NodeRead.{NodeRead}
 use Rattle.node.specs.declared.NodeRead.the-variants as read
 use Rattle.node.specs.declared.Measured.{Measured}
@@ -25,20 +26,20 @@ refusedIn (checked.Block b) = measured.Sum (b .size)
 refusedIn (checked.Refused r) = measured.Refused r
 
 -- a number that is listed as a block which passes its tests
-pub record IsListed (image : List ℕ) (n : ℕ) : Type 0 where
+pub record IsListed (E : Edition) (image : List ℕ) (n : ℕ) : Type 0 where
   pub block : Listed
-  pub is : checkedBlock image n ≡ checked.Block block
+  pub is : checkedBlock E image n ≡ checked.Block block
 
-abbrev pub AllListed : List ℕ → List ℕ → Type 0
-AllListed image ns = All (IsListed image) ns
+abbrev pub AllListed : Edition → List ℕ → List ℕ → Type 0
+AllListed E image ns = All (IsListed E image) ns
 
 -- the bytes of the block that is listed under a number
 unfoldable pub bytesIn : List ℕ → Checked → List ℕ
 bytesIn image (checked.Block b) = blockBytes image b
 bytesIn image (checked.Refused r) = []
 
-unfoldable pub bytesAt : List ℕ → ℕ → List ℕ
-bytesAt image n = bytesIn image (checkedBlock image n)
+unfoldable pub bytesAt : Edition → List ℕ → ℕ → List ℕ
+bytesAt E image n = bytesIn image (checkedBlock E image n)
 
 -- a refusal out of an inner step, as the answer of the read; what is no refusal plays no part
 unfoldable pub refusedSum : Measured → NodeRead

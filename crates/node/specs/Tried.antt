@@ -10,7 +10,6 @@ use Rattle.refusal.specs.Order.{_at_, _needing_, Rule, rule}
 use Rattle.keys.specs.declared.Sought.the-variants.{Equal}
 use Rattle.keys.specs.Records.{cleared}
 use Rattle.keys.specs.Search.{joined}
-use Rattle.page.specs.Layout.{nbt}
 use Rattle.tree.specs.declared.FoundNode.{FoundNode}
 use Rattle.tree.specs.declared.FoundNode.the-variants as node
 use Rattle.tree.specs.Lookup.{searchRules}
@@ -19,6 +18,7 @@ use Rattle.block.specs.declared.Checked.{Checked}
 use Rattle.block.specs.declared.Checked.the-variants as checked
 use Rattle.block.specs.Block.{checkedBlock, internal}
 use Rattle.block.specs.Tried.{testRules}
+use Rattle.edition.specs.declared.Edition.{Edition}
 use Rattle.node.specs.Content.{Content, bytes, absent, refused, numbersIn, shapeFits, Kids, all, fault, kidsOf, total, nodeContent}
 
 -- "then the sum of sizes equals the four bytes at 4, else 16"
@@ -27,27 +27,27 @@ sumRules offset g (all bs) = rule (eqb (total bs) (field g 4 4)) (DataTree at of
 sumRules offset g (fault r) = []
 
 -- a data tree whose root block, at this offset, has the bytes g: its shape, each child in turn, the sum
-unfoldable pub dataTreeRules : List ℕ → ℕ → List ℕ → List Rule
-dataTreeRules image offset g =
-    rule (shapeFits g) (DataTree at offset) ∷ (joined (testRules image) (numbersIn g) ++ sumRules offset g (kidsOf image (numbersIn g)))
+unfoldable pub dataTreeRules : Edition → List ℕ → ℕ → List ℕ → List Rule
+dataTreeRules E image offset g =
+    rule (shapeFits (E .tree) g) (DataTree at offset) ∷ (joined (testRules E image) (numbersIn (E .tree) g) ++ sumRules offset g (kidsOf E image (numbersIn (E .tree) g)))
 
 -- a data block that passed its tests
-unfoldable pub passedRules : List ℕ → Checked → List Rule
-passedRules image (checked.Block b) = cond (internal (b .block)) (dataTreeRules image (b .offset) (part image (b .offset) (b .size))) []
-passedRules image (checked.Refused r) = []
+unfoldable pub passedRules : Edition → List ℕ → Checked → List Rule
+passedRules E image (checked.Block b) = cond (internal (b .block)) (dataTreeRules E image (b .offset) (part image (b .offset) (b .size))) []
+passedRules E image (checked.Refused r) = []
 
 -- "Number 0: no bytes. Any other is looked up and tested (12 to 15)." "A data block number of 1 counts as 0."
-unfoldable pub dataBlockRules : List ℕ → ℕ → List Rule
-dataBlockRules image number = cond (eqb (cleared number) 0) [] (testRules image number ++ passedRules image (checkedBlock image number))
+unfoldable pub dataBlockRules : Edition → List ℕ → ℕ → List Rule
+dataBlockRules E image number = cond (eqb (cleared number) 0) [] (testRules E image number ++ passedRules E image (checkedBlock E image number))
 
-unfoldable pub foundRules : List ℕ → FoundNode → List Rule
-foundRules image (node.Found n pages) = dataBlockRules image (n .block)
-foundRules image (node.Absent pages) = []
-foundRules image (node.Refused r) = []
+unfoldable pub foundRules : Edition → List ℕ → FoundNode → List Rule
+foundRules E image (node.Found n pages) = dataBlockRules E image (n .block)
+foundRules E image (node.Absent pages) = []
+foundRules E image (node.Refused r) = []
 
 -- "Node data: node lookup (absent is answered), then its data block."
-unfoldable pub contentRules : List ℕ → ℕ → List Rule
-contentRules image number = searchRules Equal nbt image number ++ foundRules image (nodeOf image number)
+unfoldable pub contentRules : Edition → List ℕ → ℕ → List Rule
+contentRules E image number = searchRules Equal (E .nodes) image number ++ foundRules E image (nodeOf (E .nodes) image number)
 
 -- "then 17"
 unfoldable pub bufferRules : Content → ℕ → List Rule
@@ -56,5 +56,5 @@ bufferRules absent space = []
 bufferRules (refused r) space = []
 
 -- a read into a buffer of this length
-unfoldable pub dataRules : List ℕ → ℕ → ℕ → List Rule
-dataRules image number space = contentRules image number ++ bufferRules (nodeContent image number) space
+unfoldable pub dataRules : Edition → List ℕ → ℕ → ℕ → List Rule
+dataRules E image number space = contentRules E image number ++ bufferRules (nodeContent E image number) space

@@ -1,5 +1,7 @@
 // Node data: one block, or a data tree of one level, into the lent buffer.
 use block::Checked;
+use edition::Edition;
+use edition::RootBlock;
 use refusal::Fault;
 use refusal::Refusal;
 use refusal::Verdict;
@@ -15,9 +17,10 @@ ghost use Rattle.refusal.specs.Order.{_at_, _needing_};
 ghost use Rattle.keys.specs.Search.{joined};
 ghost use Rattle.header.specs.Header.{headerFits};
 ghost use Rattle.laws.specs.Front.{fronted};
-ghost use Rattle.page.specs.Layout.{bbt, compared};
+ghost use Rattle.page.specs.Layout.{compared};
 ghost use Rattle.tree.specs.Lookup.{lookup};
 ghost use Rattle.tree.specs.Ways.{atEnd, FromRoot};
+ghost use Rattle.edition.specs.Fair.{FairRootBlock, FairEdition};
 ghost use Rattle.block.specs.Block.{checkedBlock, blockBytes, internal};
 ghost use Rattle.node.specs.Content.{numberAt, numbersFrom, noneInternal, shapeFits, kidsOf, treeContent, blockContent, dataOf, nodeContent, answerTo, filledBy};
 ghost use Rattle.node.specs.Content.{bytes as bytesOf};
@@ -37,21 +40,22 @@ pub enum Measured {
 }
 
 // The i-th number in a data tree's root block.
-fn number_at(root: &[u8], i: usize) -> u64
-    requires { ⌜ (8 + 8 * (i + 1) ≤ length (now root)) × (i ≤ 65535) ⌝ }
-    ensures { λ r. ⌜ r ≡ numberAt (now (root .entry)) i ⌝ }
+fn number_at(root: &[u8], d: RootBlock, i: usize) -> u64
+    requires { ⌜ FairRootBlock d × (8 + i * d .word + d .word ≤ length (now root)) × (i ≤ 65535) ⌝ }
+    ensures { λ r. ⌜ r ≡ numberAt d (now (root .entry)) i ⌝ }
 {
-    le::field8(root, 8 + 8 * i)
+    let width = d.word;
+    le::field_of(root, 8 + i * width, width)
 }
 
 // Whether none of so many numbers is internal.
-fn none_internal(root: &[u8], count: usize) -> bool
-    requires { ⌜ (8 + 8 * count ≤ length (now root)) × (count ≤ 65535) ⌝ }
-    ensures { λ r. ⌜ r ≡ noneInternal (numbersFrom (now (root .entry)) 0 count) ⌝ }
+fn none_internal(root: &[u8], d: RootBlock, count: usize) -> bool
+    requires { ⌜ FairRootBlock d × (8 + count * d .word ≤ length (now root)) × (count ≤ 65535) ⌝ }
+    ensures { λ r. ⌜ r ≡ noneInternal (numbersFrom d (now (root .entry)) 0 count) ⌝ }
 {
     let mut i: usize = 0;
     while i < count {
-        if block::is_internal(number_at(root, i)) {
+        if block::is_internal(number_at(root, d, i)) {
             return false;
         }
         i += 1;
@@ -60,24 +64,26 @@ fn none_internal(root: &[u8], count: usize) -> bool
 }
 
 // The shape of a data tree's root block.
-fn shape_fits(root: &[u8]) -> bool
-    ensures { λ r. ⌜ r ≡ shapeFits (now (root .entry)) ⌝ }
+fn shape_fits(root: &[u8], d: RootBlock) -> bool
+    requires { ⌜ FairRootBlock d ⌝ }
+    ensures { λ r. ⌜ r ≡ shapeFits d (now (root .entry)) ⌝ }
 {
     let size = root.len();
     if size < 8 {
         return false;
     }
     let count = le::field2(root, 2) as usize;
-    if size < 8 + 8 * count {
+    let whole = 8 + count * d.word;
+    if size < whole {
         return false;
     }
     (8 <= size)
         & (root[0] == 1)
         & (root[1] == 1)
         & (1 <= count)
-        & (count <= 1021)
-        & (size == 8 + 8 * count)
-        & none_internal(root, count)
+        & (count <= d.most)
+        & (size == whole)
+        & none_internal(root, d, count)
 }
 
 fn refused_measure(checked: Checked) -> Measured
@@ -91,18 +97,18 @@ fn refused_measure(checked: Checked) -> Measured
 
 // The children of a data tree, each looked up and tested in turn. The root page is tested once; the way
 // to a leaf page is taken again for the children behind that are listed there too.
-fn measure(image: &[u8], root: &[u8], count: usize) -> Measured
-    requires { ⌜ (8 + 8 * count ≤ length (now root)) × (count ≤ 1021) × (headerFits (now image) ≡ Verdict.Accepted) ⌝ }
-    ensures { λ r. ⌜ r ≡ measuredIn (kidsOf (now (image .entry)) (numbersFrom (now (root .entry)) 0 count)) ⌝ }
+fn measure(image: &[u8], e: Edition, root: &[u8], count: usize) -> Measured
+    requires { ⌜ FairEdition e × (8 + count * e .tree .word ≤ length (now root)) × (count ≤ 65535) × (headerFits (now image) ≡ Verdict.Accepted) ⌝ }
+    ensures { λ r. ⌜ r ≡ measuredIn (kidsOf e (now (image .entry)) (numbersFrom (e .tree) (now (root .entry)) 0 count)) ⌝ }
 {
-    let start = tree::check_block_start(image);
+    let start = tree::check_root(image, e.blocks);
     let mut way = Way::Nowhere(0);
     let mut sum: u64 = 0;
     let mut i: usize = 0;
     while i < count {
-        let number = number_at(root, i);
-        way = tree::way_to_block(image, start, way, number);
-        let checked = block::check_block_at(image, way, number);
+        let number = number_at(root, e.tree, i);
+        way = tree::way_to(image, e.blocks, start, way, number);
+        let checked = block::check_block_at(image, e, way, number);
         let Checked::Block(b) = checked else {
             return refused_measure(checked);
         };
@@ -114,9 +120,9 @@ fn measure(image: &[u8], root: &[u8], count: usize) -> Measured
 
 // The block at the end of the way of a number whose tests have passed. The last two arms are never
 // reached: a second lookup of the number finds the same block.
-fn listed_at(image: &[u8], way: Way, number: u64) -> Listed
-    requires { ⌜ IsListed (now image) number × FromRoot bbt (now image) way × (atEnd bbt (now image) way (compared bbt number) ≡ lookup bbt (now image) number) ⌝ }
-    ensures { λ r. ⌜ checkedBlock (now (image .entry)) number ≡ Checked.Block r ⌝ }
+fn listed_at(image: &[u8], e: Edition, way: Way, number: u64) -> Listed
+    requires { ⌜ FairEdition e × IsListed e (now image) number × FromRoot (e .blocks) (now image) way × (atEnd (e .blocks) (now image) way (compared (e .blocks) number) ≡ lookup (e .blocks) (now image) number) ⌝ }
+    ensures { λ r. ⌜ checkedBlock e (now (image .entry)) number ≡ Checked.Block r ⌝ }
 {
     let nothing = Listed {
         block: 0,
@@ -124,7 +130,7 @@ fn listed_at(image: &[u8], way: Way, number: u64) -> Listed
         size: 0,
         references: 0,
     };
-    let found = tree::block_at(image, way, number);
+    let found = tree::block_at(image, e.blocks, way, number);
     match found {
         FoundBlock::Found(b, _) => b,
         FoundBlock::Absent(_) => nothing,
@@ -133,19 +139,19 @@ fn listed_at(image: &[u8], way: Way, number: u64) -> Listed
 }
 
 // The children's bytes, each right behind those of the child before.
-fn gather(image: &[u8], root: &[u8], count: usize, out: &mut [u8])
-    requires { ⌜ (8 + 8 * count ≤ length (now root)) × (count ≤ 1021) × AllListed (now image) (numbersFrom (now root) 0 count) × (headerFits (now image) ≡ Verdict.Accepted) ⌝ }
-    requires { ⌜ length (joined (bytesAt (now image)) (numbersFrom (now root) 0 count)) ≤ length (now out) ⌝ }
-    ensures { λ _. ⌜ now (out .exit) ≡ fronted (joined (bytesAt (now (image .entry))) (numbersFrom (now (root .entry)) 0 count)) (now (out .entry)) ⌝ }
+fn gather(image: &[u8], e: Edition, root: &[u8], count: usize, out: &mut [u8])
+    requires { ⌜ FairEdition e × (8 + count * e .tree .word ≤ length (now root)) × (count ≤ 65535) × AllListed e (now image) (numbersFrom (e .tree) (now root) 0 count) × (headerFits (now image) ≡ Verdict.Accepted) ⌝ }
+    requires { ⌜ length (joined (bytesAt e (now image)) (numbersFrom (e .tree) (now root) 0 count)) ≤ length (now out) ⌝ }
+    ensures { λ _. ⌜ now (out .exit) ≡ fronted (joined (bytesAt e (now (image .entry))) (numbersFrom (e .tree) (now (root .entry)) 0 count)) (now (out .entry)) ⌝ }
 {
-    let start = tree::check_block_start(image);
+    let start = tree::check_root(image, e.blocks);
     let mut way = Way::Nowhere(0);
     let mut n: usize = 0;
     let mut i: usize = 0;
     while i < count {
-        let child = number_at(root, i);
-        way = tree::way_to_block(image, start, way, child);
-        let b = listed_at(image, way, child);
+        let child = number_at(root, e.tree, i);
+        way = tree::way_to(image, e.blocks, start, way, child);
+        let b = listed_at(image, e, way, child);
         block::block_into(image, b, &mut out[n..]);
         n += b.size as usize;
         i += 1;
@@ -197,16 +203,16 @@ fn refused_sum(measured: Measured) -> NodeRead
 
 // The data is a data tree with the root block's bytes as stored: its shape, its children in turn, the
 // sum, 17, and then the bytes.
-fn read_root(image: &[u8], root: &[u8], offset: u64, out: &mut [u8]) -> NodeRead
-    requires { ⌜ headerFits (now image) ≡ Verdict.Accepted ⌝ }
-    ensures answer { λ r. ⌜ r ≡ answerTo (treeContent (now (image .entry)) offset (now (root .entry))) (length (now (out .entry))) ⌝ }
-    ensures buffer { λ _. ⌜ now (out .exit) ≡ filledBy (treeContent (now (image .entry)) offset (now (root .entry))) (now (out .entry)) ⌝ }
+fn read_root(image: &[u8], e: Edition, root: &[u8], offset: u64, out: &mut [u8]) -> NodeRead
+    requires { ⌜ FairEdition e × (headerFits (now image) ≡ Verdict.Accepted) ⌝ }
+    ensures answer { λ r. ⌜ r ≡ answerTo (treeContent e (now (image .entry)) offset (now (root .entry))) (length (now (out .entry))) ⌝ }
+    ensures buffer { λ _. ⌜ now (out .exit) ≡ filledBy (treeContent e (now (image .entry)) offset (now (root .entry))) (now (out .entry)) ⌝ }
 {
-    if !shape_fits(root) {
+    if !shape_fits(root, e.tree) {
         return no_data_tree(offset);
     }
     let count = le::field2(root, 2) as usize;
-    let measured = measure(image, root, count);
+    let measured = measure(image, e, root, count);
     let Measured::Sum(sum) = measured else {
         return refused_sum(measured);
     };
@@ -216,20 +222,20 @@ fn read_root(image: &[u8], root: &[u8], offset: u64, out: &mut [u8]) -> NodeRead
     if (out.len() as u64) < sum {
         return short_buffer(sum);
     }
-    gather(image, root, count, out);
+    gather(image, e, root, count, out);
     NodeRead::Length(sum)
 }
 
 // The data of a listed block that has passed its tests.
-fn read_listed(image: &[u8], b: Listed, out: &mut [u8]) -> NodeRead
-    requires { ⌜ (564 ≤ length (now image)) × (b .offset + b .size ≤ length (now image)) × (headerFits (now image) ≡ Verdict.Accepted) ⌝ }
-    ensures answer { λ r. ⌜ r ≡ answerTo (blockContent (now (image .entry)) b) (length (now (out .entry))) ⌝ }
-    ensures buffer { λ _. ⌜ now (out .exit) ≡ filledBy (blockContent (now (image .entry)) b) (now (out .entry)) ⌝ }
+fn read_listed(image: &[u8], e: Edition, b: Listed, out: &mut [u8]) -> NodeRead
+    requires { ⌜ FairEdition e × (564 ≤ length (now image)) × (b .offset + b .size ≤ length (now image)) × (headerFits (now image) ≡ Verdict.Accepted) ⌝ }
+    ensures answer { λ r. ⌜ r ≡ answerTo (blockContent e (now (image .entry)) b) (length (now (out .entry))) ⌝ }
+    ensures buffer { λ _. ⌜ now (out .exit) ≡ filledBy (blockContent e (now (image .entry)) b) (now (out .entry)) ⌝ }
 {
     if block::is_internal(b.block) {
         let at = b.offset as usize;
         let size = b.size as usize;
-        return read_root(image, &image[at..at + size], b.offset, out);
+        return read_root(image, e, &image[at..at + size], b.offset, out);
     }
     read_one(image, b, out)
 }
@@ -244,19 +250,19 @@ fn refused_data(checked: Checked) -> NodeRead
 }
 
 // The data under a data block number: none under 0, and 1 counts as 0.
-fn read_data(image: &[u8], number: u64, out: &mut [u8]) -> NodeRead
-    requires { ⌜ headerFits (now image) ≡ Verdict.Accepted ⌝ }
-    ensures answer { λ r. ⌜ r ≡ answerTo (dataOf (now (image .entry)) number) (length (now (out .entry))) ⌝ }
-    ensures buffer { λ _. ⌜ now (out .exit) ≡ filledBy (dataOf (now (image .entry)) number) (now (out .entry)) ⌝ }
+fn read_data(image: &[u8], e: Edition, number: u64, out: &mut [u8]) -> NodeRead
+    requires { ⌜ FairEdition e × (headerFits (now image) ≡ Verdict.Accepted) ⌝ }
+    ensures answer { λ r. ⌜ r ≡ answerTo (dataOf e (now (image .entry)) number) (length (now (out .entry))) ⌝ }
+    ensures buffer { λ _. ⌜ now (out .exit) ≡ filledBy (dataOf e (now (image .entry)) number) (now (out .entry)) ⌝ }
 {
     if keys::cleared(number) == 0 {
         return NodeRead::Length(0);
     }
-    let checked = block::check_block_in(image, number);
+    let checked = block::check_block_in(image, e, number);
     let Checked::Block(b) = checked else {
         return refused_data(checked);
     };
-    read_listed(image, b, out)
+    read_listed(image, e, b, out)
 }
 
 // Absent and refusals, as the answer of the read.
@@ -271,13 +277,14 @@ fn gone(found: FoundNode) -> NodeRead
 }
 
 // Node lookup, then its data block. The header is tested once, with the node. No byte is written before the last test has passed.
-pub fn read_node(image: &[u8], node: u64, out: &mut [u8]) -> NodeRead
-    ensures answer { λ r. ⌜ r ≡ answerTo (nodeContent (now (image .entry)) node) (length (now (out .entry))) ⌝ }
-    ensures buffer { λ _. ⌜ now (out .exit) ≡ filledBy (nodeContent (now (image .entry)) node) (now (out .entry)) ⌝ }
+pub fn read_node(image: &[u8], e: Edition, node: u64, out: &mut [u8]) -> NodeRead
+    requires { ⌜ FairEdition e ⌝ }
+    ensures answer { λ r. ⌜ r ≡ answerTo (nodeContent e (now (image .entry)) node) (length (now (out .entry))) ⌝ }
+    ensures buffer { λ _. ⌜ now (out .exit) ≡ filledBy (nodeContent e (now (image .entry)) node) (now (out .entry)) ⌝ }
 {
-    let found = tree::find_node(image, node);
+    let found = tree::find_node(image, e.nodes, node);
     let FoundNode::Found(listed, _) = found else {
         return gone(found);
     };
-    read_data(image, listed.block, out)
+    read_data(image, e, listed.block, out)
 }

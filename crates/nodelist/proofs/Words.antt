@@ -8,6 +8,7 @@ use lib.Seq.{sets-eq}
 use Rattle.refusal.proofs.NumberLaws.{number-some, refusal-same}
 use Rattle.tree.specs.declared.FoundNode.{FoundNode}
 use Rattle.tree.specs.declared.FoundNode.the-variants.{Found, Absent, Refused}
+use Rattle.edition.specs.declared.Layout.{Layout}
 use Rattle.nodelist.specs.Places.{nodeWords, placeOf}
 
 -- what stands where nine words were written one by one
@@ -39,5 +40,5 @@ words-injective (Absent p) (Refused s) e = absurd (number-some (s .fault) (sym (
 words-injective (Refused r) (Absent q) e = absurd (number-some (r .fault) (ap (λ (w : List ℕ). getD w 0 0) e))
 
 -- every place has nine words
-pub place-length : (image : List ℕ) (node : ℕ) → length (placeOf image node) ≡ 9
-place-length image node = words-length _
+pub place-length : (L : Layout) (image : List ℕ) (node : ℕ) → length (placeOf L image node) ≡ 9
+place-length L image node = words-length _

@@ -9,6 +9,7 @@ use Rattle.refusal.specs.declared.Verdict.{Verdict}
 use Rattle.refusal.specs.Number.{number}
 use Rattle.refusal.specs.Order.{_needing_, Rule, rule, inOrder, after}
 use Rattle.keys.specs.Search.{joined}
+use Rattle.edition.specs.declared.Layout.{Layout}
 use Rattle.tree.specs.declared.FoundNode.{FoundNode}
 use Rattle.tree.specs.declared.FoundNode.the-variants.{Found, Absent, Refused}
 use Rattle.tree.specs.Answers.{nodeOf}
@@ -19,13 +20,13 @@ nodeWords (Found n pages) = 0 ∷ 0 ∷ 0 ∷ 1 ∷ pages ∷ n .node ∷ n .blo
 nodeWords (Absent pages) = 0 ∷ 0 ∷ 0 ∷ 0 ∷ pages ∷ 0 ∷ 0 ∷ 0 ∷ 0 ∷ []
 nodeWords (Refused r) = number (r .fault) ∷ r .place ∷ r .more ∷ 0 ∷ 0 ∷ 0 ∷ 0 ∷ 0 ∷ 0 ∷ []
 
--- "every place in the result equals what the single lookup gives for that number"
-abbrev pub placeOf : List ℕ → ℕ → List ℕ
-placeOf image node = nodeWords (nodeOf image node)
+-- "every place in the result equals what the single lookup gives for that number", by the layout of the node tree
+abbrev pub placeOf : Layout → List ℕ → ℕ → List ℕ
+placeOf L image node = nodeWords (nodeOf L image node)
 
 -- the places of a list, one behind the other
-abbrev pub placesOf : List ℕ → List ℕ → List ℕ
-placesOf image nodes = joined (placeOf image) nodes
+abbrev pub placesOf : Layout → List ℕ → List ℕ → List ℕ
+placesOf L image nodes = joined (placeOf L image) nodes
 
 -- "A list over 4,096 (length returned 4,096), then a result area shorter than the list (length returned the list's), is refused with 17, place 0"
 unfoldable pub listRules : ℕ → ℕ → List Rule
@@ -35,5 +36,5 @@ unfoldable pub listFits : ℕ → ℕ → Verdict
 listFits count words = inOrder (listRules count words)
 
 -- the area at exit: "nothing is written" by a refused call, and "results past the list stay"
-unfoldable pub areaOf : List ℕ → List ℕ → List ℕ → List ℕ
-areaOf image nodes area = after (λ r. area) (listFits (length nodes) (length area)) (fronted (placesOf image nodes) area)
+unfoldable pub areaOf : Layout → List ℕ → List ℕ → List ℕ → List ℕ
+areaOf L image nodes area = after (λ r. area) (listFits (length nodes) (length area)) (fronted (placesOf L image nodes) area)

@@ -1,4 +1,5 @@
 // A list of nodes, looked up in one call.
+use edition::Layout;
 use refusal::Fault;
 use refusal::Refusal;
 use refusal::Verdict;
@@ -11,6 +12,7 @@ ghost use Prim.Native.Nat.{_*_, _≤_};
 ghost use lib.ListN.{length, drop};
 ghost use Rattle.laws.specs.Front.{fronted};
 ghost use Rattle.refusal.specs.Order.{_needing_};
+ghost use Rattle.edition.specs.Fair.{FairLayout};
 ghost use Rattle.nodelist.specs.Places.{nodeWords, placesOf, listFits, areaOf};
 
 // The nine words of a place, written one by one.
@@ -61,18 +63,18 @@ fn put_answer(answer: FoundNode, words: &mut [u64])
 
 // Each number's answer into its place. The header and the root page are tested once; the way to a leaf
 // page is taken again for the numbers behind that belong there too.
-fn fill(image: &[u8], nodes: &[u64], places: &mut [u64])
-    requires { ⌜ (length (now nodes) ≤ 4096) × (9 * length (now nodes) ≤ length (now places)) ⌝ }
-    ensures { λ _. ⌜ now (places .exit) ≡ fronted (placesOf (now (image .entry)) (now (nodes .entry))) (now (places .entry)) ⌝ }
+fn fill(image: &[u8], l: Layout, nodes: &[u64], places: &mut [u64])
+    requires { ⌜ FairLayout l × (length (now nodes) ≤ 4096) × (9 * length (now nodes) ≤ length (now places)) ⌝ }
+    ensures { λ _. ⌜ now (places .exit) ≡ fronted (placesOf l (now (image .entry)) (now (nodes .entry))) (now (places .entry)) ⌝ }
 {
-    let start = tree::check_node_start(image);
+    let start = tree::check_start(image, l);
     let mut way = Way::Nowhere(0);
     let mut i: usize = 0;
     while i < nodes.len() {
         let node = nodes[i];
         let at = 9 * i;
-        way = tree::way_to_node(image, start, way, node);
-        put_answer(tree::node_at(image, way, node), &mut places[at..]);
+        way = tree::way_to(image, l, start, way, node);
+        put_answer(tree::node_at(image, l, way, node), &mut places[at..]);
         i += 1;
     }
 }
@@ -89,9 +91,10 @@ fn short_area(places: u64) -> Verdict
 }
 
 // An empty list is answered without a look at the image.
-pub fn find_nodes(image: &[u8], nodes: &[u64], places: &mut [u64]) -> Verdict
+pub fn find_nodes(image: &[u8], l: Layout, nodes: &[u64], places: &mut [u64]) -> Verdict
+    requires { ⌜ FairLayout l ⌝ }
     ensures answer { λ r. ⌜ r ≡ listFits (length (now (nodes .entry))) (length (now (places .entry))) ⌝ }
-    ensures area { λ _. ⌜ now (places .exit) ≡ areaOf (now (image .entry)) (now (nodes .entry)) (now (places .entry)) ⌝ }
+    ensures area { λ _. ⌜ now (places .exit) ≡ areaOf l (now (image .entry)) (now (nodes .entry)) (now (places .entry)) ⌝ }
 {
     let count = nodes.len();
     if 4096 < count {
@@ -101,7 +104,7 @@ pub fn find_nodes(image: &[u8], nodes: &[u64], places: &mut [u64]) -> Verdict
         return short_area(count as u64);
     }
     if 0 < count {
-        fill(image, nodes, places);
+        fill(image, l, nodes, places);
     }
     Verdict::Accepted
 }

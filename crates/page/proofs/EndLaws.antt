@@ -10,7 +10,7 @@ use Rattle.refusal.specs.Order.{_at_, inOrder}
 use Rattle.header.specs.Header.{fileEnd}
 use Rattle.header.specs.End.{AlikeToEnd}
 use Rattle.header.proofs.EndLaws.{part-alike}
-use Rattle.page.specs.declared.Layout.{Layout}
+use Rattle.edition.specs.declared.Layout.{Layout}
 use Rattle.page.specs.declared.Link.{Link}
 use Rattle.page.specs.Page.{page, offsetFits, pageFits}
 use Rattle.page.proofs.PageLaws.{offset-ends, page-rules, page-ends, rules-agree}

@@ -7,7 +7,7 @@ use mathlib.Core.List.{List, _++_}
 use native.Mathlib.Omega.{arith}
 use lib.Dec.{leb, eqb}
 use borrow.Author.Tests.{leb-true, eqb-true, le-leb, eq-eqb}
-use Rattle.laws.proofs.Tests.{and-both, both-and}
+use Rattle.laws.proofs.Tests.{and-both, both-and, or-right}
 use Rattle.le.specs.Bytes.{field, byte}
 use Rattle.refusal.specs.declared.Refusal.{Refusal}
 use Rattle.refusal.specs.declared.Verdict.the-variants.{Accepted, Refused}
@@ -15,7 +15,7 @@ use Rattle.refusal.specs.Order.{AllHold, both, FirstFault}
 use Rattle.refusal.proofs.OrderLaws.{accepted-exactly, refused-exactly}
 use Rattle.keys.proofs.Climbs.{ordered-exactly}
 use Rattle.header.specs.Header.{fileEnd}
-use Rattle.page.specs.declared.Layout.{Layout}
+use Rattle.edition.specs.declared.Layout.{Layout}
 use Rattle.page.specs.declared.Level.{Level}
 use Rattle.page.specs.declared.Level.the-variants.{AtRoot, Exactly}
 use Rattle.page.specs.declared.Link.{Link}
@@ -50,10 +50,6 @@ of-some : (w : Level) (n l : ℕ) → (1 ≤ n) ⊎ MayBeEmpty w l → (leb 1 n 
 unfolding mayBeEmpty
 of-some w n l (inl h) = rw (le-leb 1 n h)
 of-some AtRoot n l (inr h) = or-right (leb 1 n) _ (eq-eqb l 0 h)
-  where
-    or-right : (a b : Bool) → b ≡ true → (a || b) ≡ true
-    or-right true b e = refl
-    or-right false b e = e
 of-some (Exactly m) n l (inr h) = absurd h
 
 three : (a b c : Bool) → (a && b && c) ≡ true → (a ≡ true) × (b ≡ true) × (c ≡ true)

@@ -15,7 +15,7 @@ use Rattle.keys.specs.declared.Order.{Order}
 use Rattle.keys.specs.declared.Order.the-variants.{Climbing, Unordered, Outside}
 use Rattle.keys.specs.Range.{ordered}
 use Rattle.keys.proofs.Faults.{unordered-exactly, outside-exactly, climbing-exactly}
-use Rattle.page.specs.declared.Layout.{Layout}
+use Rattle.edition.specs.declared.Layout.{Layout}
 use Rattle.page.specs.declared.Link.{Link}
 use Rattle.page.specs.Page.{page, bytesRules, sixToTen, keysIn, keyRules, pageRules, pageFits}
 use Rattle.page.specs.KeyFaults.{BreaksOrder, BreaksRange, KeyFaultsTold}

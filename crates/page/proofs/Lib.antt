@@ -1,6 +1,5 @@
 pub mod KeyLaws
 pub mod PageLaws
-pub mod Fairs
 pub mod Exactly
 pub mod KeyFaults
 pub mod EndLaws

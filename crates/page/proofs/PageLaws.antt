@@ -27,10 +27,11 @@ use Rattle.keys.proofs.RecordLaws.{key-same, keys-same, records-short}
 use Rattle.keys.proofs.FoundLaws.{keys-are}
 use Rattle.header.specs.Header.{fileEnd}
 use Rattle.header.proofs.HeaderLaws.{end-inside}
-use Rattle.page.specs.declared.Layout.{Layout}
+use Rattle.edition.specs.declared.Layout.{Layout}
 use Rattle.page.specs.declared.Level.the-variants.{Exactly}
 use Rattle.page.specs.declared.Link.{Link}
-use Rattle.page.specs.Layout.{asGiven, compared, entrySize, mostRoom, shape, FairLayout}
+use Rattle.page.specs.Layout.{asGiven, compared, entrySize, mostRoom, shape}
+use Rattle.edition.specs.Fair.{FairLayout}
 use Rattle.page.specs.Page.{page, countOf, roomOf, sizeOf, levelOf, entries, numberIn, keyIn, offsetFits, levelFits, mayBeEmpty, countsFit, bytesRules, sixToTen, keysIn, keyRules, pageRules, pageFits}
 use Rattle.page.proofs.KeyLaws.{climbing-of}
 

@@ -1,4 +1,4 @@
--- Document 01, "Pages and trees" (003, 2.2.2.7), and document 02, 2/13: a page and its tests 6 to 11 and 21. Assumes nothing: these are definitions.
+-- Document 01, "Pages and trees" (003, 2.2.2.7), and document 02, 2/13: a page and its tests 6 to 11 and 21, over the layout of any edition (7/13); quoted are the places of the 64-bit one. Assumes nothing: these are definitions.
 use Prim.Native.Nat.{ℕ, _+_, _/_, _%_}
 use mathlib.Core.Bool.{Bool, false, _&&_, _||_}
 use mathlib.Core.List.{List, [], _∷_, _++_, map}
@@ -13,7 +13,7 @@ use Rattle.refusal.specs.Order.{_at_, atEntry, Rule, rule, inOrder}
 use Rattle.keys.specs.Records.{records, keyOf}
 use Rattle.keys.specs.Range.{inRange}
 use Rattle.header.specs.Header.{fileEnd}
-use Rattle.page.specs.declared.Layout.{Layout}
+use Rattle.edition.specs.declared.Layout.{Layout}
 use Rattle.page.specs.declared.Level.{Level}
 use Rattle.page.specs.declared.Level.the-variants.{AtRoot, Exactly}
 use Rattle.page.specs.declared.Link.{Link}

@@ -8,7 +8,7 @@ use Rattle.le.specs.Bytes.{field, byte}
 use Rattle.crc.specs.Checksum.{checksum}
 use Rattle.keys.specs.Plain.{All, Ascending, Inside}
 use Rattle.header.specs.Header.{fileEnd}
-use Rattle.page.specs.declared.Layout.{Layout}
+use Rattle.edition.specs.declared.Layout.{Layout}
 use Rattle.page.specs.declared.Level.{Level}
 use Rattle.page.specs.declared.Level.the-variants.{AtRoot, Exactly}
 use Rattle.page.specs.declared.Link.{Link}

@@ -1,4 +1,5 @@
 // One page: its tests 6 to 11 and 21, and its entries, over a layout.
+use edition::Layout;
 use keys::End;
 use keys::Order;
 use keys::Range;
@@ -13,45 +14,9 @@ ghost use lib.Dec.{leb};
 ghost use lib.ListN.{length};
 ghost use Rattle.le.specs.Bytes.{byte};
 ghost use Rattle.refusal.specs.Order.{inOrder};
-ghost use Rattle.page.specs.Layout.{nbt, bbt, FairLayout, asGiven, compared as comparedOf, entrySize, mostRoom, shape};
+ghost use Rattle.page.specs.Layout.{asGiven, compared as comparedOf, entrySize, mostRoom, shape};
+ghost use Rattle.edition.specs.Fair.{FairLayout};
 ghost use Rattle.page.specs.Page.{signature as signatureOf, countOf, levelOf, offsetFits, kindFits, numberFits, checksumFits, levelFits, mayBeEmpty, countsFit, bytesRules, keysIn, keyRules, pageFits};
-
-// The bytes of an entry that hold one of its numbers.
-pub struct Column {
-    pub place: usize,
-    pub width: usize,
-}
-
-// What differs between the two trees, and between editions of the format.
-pub struct Layout {
-    // the place of the root reference in the header
-    pub root: usize,
-    // the width of a page number and of an offset
-    pub word: usize,
-    // how many bytes of an entry's key, and of a key sought, are compared; and whether bit 0 of a
-    // key is reserved, and read as zero
-    pub key: usize,
-    pub sought: usize,
-    pub reserved: bool,
-    // the kind byte
-    pub kind: u8,
-    // places in the page: count, room, entry size and level; the kind bytes, before which the
-    // checksum ends; the checksum; the page number
-    pub counts: usize,
-    pub trailer: usize,
-    pub checksum: usize,
-    pub number: usize,
-    // entry size and most room, in leaf and in index pages
-    pub leafsize: usize,
-    pub leafroom: usize,
-    pub indexsize: usize,
-    pub indexroom: usize,
-    // a leaf entry's numbers, without its padding
-    pub first: Column,
-    pub second: Column,
-    pub third: Column,
-    pub fourth: Column,
-}
 
 // The level that a page must have.
 pub enum Level {
@@ -65,70 +30,6 @@ pub struct Link {
     pub offset: u64,
     pub level: Level,
     pub range: Range,
-}
-
-// The node tree of the 64-bit edition.
-pub fn nodes() -> Layout
-    ensures { λ r. ⌜ r ≡ nbt ⌝ }
-{
-    Layout {
-        root: 216,
-        word: 8,
-        key: 4,
-        sought: 4,
-        reserved: false,
-        kind: 0x81,
-        counts: 488,
-        trailer: 496,
-        checksum: 500,
-        number: 504,
-        leafsize: 32,
-        leafroom: 15,
-        indexsize: 24,
-        indexroom: 20,
-        first: Column { place: 0, width: 4 },
-        second: Column { place: 8, width: 8 },
-        third: Column {
-            place: 16,
-            width: 8,
-        },
-        fourth: Column {
-            place: 24,
-            width: 4,
-        },
-    }
-}
-
-// The block tree of the 64-bit edition.
-pub fn blocks() -> Layout
-    ensures { λ r. ⌜ r ≡ bbt ⌝ }
-{
-    Layout {
-        root: 232,
-        word: 8,
-        key: 8,
-        sought: 8,
-        reserved: true,
-        kind: 0x80,
-        counts: 488,
-        trailer: 496,
-        checksum: 500,
-        number: 504,
-        leafsize: 24,
-        leafroom: 20,
-        indexsize: 24,
-        indexroom: 20,
-        first: Column { place: 0, width: 8 },
-        second: Column { place: 8, width: 8 },
-        third: Column {
-            place: 16,
-            width: 2,
-        },
-        fourth: Column {
-            place: 18,
-            width: 2,
-        },
-    }
 }
 
 // A number that a call is given, on the bytes that count.

@@ -18,6 +18,7 @@ use Rattle.columns.specs.Record.{columnCount}
 use Rattle.columns.specs.Columns.{columnAt, tags}
 use Rattle.columns.specs.Sound.{Apart}
 use Rattle.columns.proofs.SeatLaws.{tag-is, unknown-exactly}
+use Rattle.heaptree.specs.declared.HeapTree.{HeapTree}
 use Rattle.table.specs.declared.Table.{Table}
 use Rattle.table.specs.declared.TableAnswer.the-variants as table
 use Rattle.table.specs.declared.ColumnAnswer.the-variants as column
@@ -25,7 +26,7 @@ use Rattle.table.specs.declared.FoundRow.{FoundRow}
 use Rattle.table.specs.declared.FoundRow.the-variants as row
 use Rattle.table.specs.Context.{tableRecord, tableTest, TableSound}
 use Rattle.table.specs.Says.{tableIn, tableOf, columnOf}
-use Rattle.table.specs.RowIndex.{rowRules, rowOf, IndexSound, rowId, rowRecords}
+use Rattle.table.specs.RowIndex.{rowIndex, rowIndex32, rowId, rowRules, rowOf, IndexSound, rowRecords}
 use Rattle.table.proofs.ContextLaws.{table-exactly}
 use Rattle.table.proofs.IndexLaws.{table-on, column-on, column-refused}
 use Rattle.table.proofs.SaidLaws.{column-past, column-there}
@@ -45,8 +46,8 @@ use Rattle.rowcells.specs.RowCells.{cellWords, rowRead}
 use Rattle.rowcells.proofs.Words.{words-injective}
 use Rattle.rowcells.proofs.ReadLaws.{cells-say, place-is, past-stays, area-length, left-alone}
 use Rattle.pst.specs.Meaning.{answered, absent, refuses, refusalMeans, tableMeans, columnMeans, countMeans, cellMeans, rowMeans, cellsMeans}
-use Rattle.pst.specs.Outcomes.{tableOutcome, columnOutcome, countOutcome, cellOutcome, rowOutcome, readRowOutcome, readRowArea}
-use Rattle.pst.specs.Demands.{cellPlaceIn, RowThere, FifthRequest}
+use Rattle.pst.specs.Outcomes.{tableOutcome, columnOutcome, countOutcome, cellOutcome, rowOutcome, row32Outcome, readRowOutcome, readRowArea}
+use Rattle.pst.specs.Demands.{cellPlaceIn, RowThere, RowsFound, FifthRequest}
 use Rattle.pst.proofs.Injective.{table-injective, column-injective, count-injective, cell-injective, row-injective, cells-injective}
 
 both-ways : {A B C : Type 0} → A ↔ B → B ↔ C → A ↔ C
@@ -155,14 +156,21 @@ cell-answered : (block rows : List ℕ) (row tag : ℕ) → (refuses (cellOutcom
 unfolding cellOutcome
 cell-answered block rows row tag = both-ways (not-refused (cellOf block rows row tag)) (tried.cell-answered-exactly block rows row tag)
 
-row-answered : (block : List ℕ) (id : ℕ) → (refuses (rowOutcome block id) ≡ false) ↔ AllHold (rowRules block id)
-unfolding rowOutcome
-row-answered block id = both-ways (row-not-refused (rowOf block id)) (row-answered-exactly block id)
+-- over any row index
+module _ (tree : HeapTree) where
+  row-absent-iff : (block : List ℕ) (id : ℕ) → IndexSound tree block → (rowMeans (rowOf tree block id) ≡ absent []) ↔ Missing id (map (rowId tree) (rowRecords tree block))
+  unfolding rowMeans
+  row-absent-iff block id s =
+      both-ways ((λ e. row-injective (rowOf tree block id) row.Absent e), (λ e. ap rowMeans e)) (row-scan-holds tree block s .absent-iff id)
 
-row-absent-iff : (block : List ℕ) (id : ℕ) → IndexSound block → (rowOutcome block id ≡ absent []) ↔ Missing id (map rowId (rowRecords block))
-unfolding rowOutcome rowMeans
-row-absent-iff block id s =
-    both-ways ((λ e. row-injective (rowOf block id) row.Absent e), (λ e. ap rowMeans e)) (row-scan-holds block s .absent-iff id)
+  rows-found : RowsFound tree (λ block id. rowMeans (rowOf tree block id))
+  rows-found =
+      record {
+        row-answered = λ block id. both-ways (row-not-refused (rowOf tree block id)) (row-answered-exactly tree block id);
+        row-scanned = λ block id s. ap rowMeans (row-scan-holds tree block s .answers id);
+        row-ascending = λ block s. row-scan-holds tree block s .ascending;
+        row-absent-iff = row-absent-iff;
+      }
 
 -- the cells of a row
 module _ (block rows : List ℕ) (row n : ℕ) (area : List ℕ) (e : readRowOutcome block rows row area ≡ answered (n ∷ [])) where
@@ -205,7 +213,7 @@ absent-leaves block rows row area e =
     left-alone block rows area row cells.Absent (cells-injective _ cells.Absent e) (λ n f. let clash : _≡_ {A = ℕ} 0 1 = cc in omega arith)
 
 pub fifth-request : FifthRequest
-unfolding rowOutcome cellOutcome
+unfolding rowOutcome row32Outcome cellOutcome
 fifth-request =
     record {
       accepted = accepted;
@@ -219,10 +227,8 @@ fifth-request =
       cell-answered = cell-answered;
       in-its-row = λ block one other row tag long same. ap cellMeans (cell-within block one other row tag long same);
       in-any-row = row-only;
-      row-answered = row-answered;
-      row-scanned = λ block id s. ap rowMeans (row-scan-holds block s .answers id);
-      row-ascending = λ block s. row-scan-holds block s .ascending;
-      row-absent-iff = row-absent-iff;
+      row-index = rows-found rowIndex;
+      row-index32 = rows-found rowIndex32;
       cells-counted = cells-counted;
       cell-places = λ block rows row n area i given e h. cell-places block rows row n area e i given h;
       past-the-places = past-the-places;

@@ -8,8 +8,7 @@ use Rattle.refusal.specs.declared.Verdict.the-variants.{Accepted, Refused}
 use Rattle.refusal.specs.Order.{_then_, inOrder, after}
 use Rattle.keys.specs.declared.Sought.the-variants.{Equal, AtLeast}
 use Rattle.coding.specs.Coding.{methodFits}
-use Rattle.header.specs.Header.{headerRules, headerFits, headerOf}
-use Rattle.page.specs.Layout.{nbt, bbt}
+use Rattle.header.specs.Header.{editionOf, nodesOf, blocksOf, headerRules, headerFits, headerOf}
 use Rattle.tree.specs.Tree.{treeRules, treeFits}
 use Rattle.tree.specs.Lookup.{searchRules}
 use Rattle.tree.specs.Answers.{nodeOf, blockOf, nextNodeOf, nextBlockOf}
@@ -24,7 +23,7 @@ use Rattle.heap.specs.Items.{itemRules, itemTest, itemSpan}
 use Rattle.property.specs.Lookup.{propertyRules}
 use Rattle.property.proofs.TriedLaws.{property-refused-exactly}
 use Rattle.table.specs.Context.{tableRules}
-use Rattle.table.specs.RowIndex.{rowRules}
+use Rattle.table.specs.RowIndex.{rowIndex, rowIndex32, rowRules}
 use Rattle.table.proofs.RowLaws.{row-refused-exactly}
 use Rattle.table.proofs.SaidLaws.{table-told-exactly, column-told-exactly}
 use Rattle.cells.specs.Rows.{rowsRules}
@@ -34,7 +33,7 @@ use Rattle.cells.proofs.TriedLaws.{cell-refused-exactly}
 use Rattle.rowcells.specs.RowCells.{readRowRules}
 use Rattle.rowcells.proofs.ReadLaws.{read-refused-exactly}
 use Rattle.pst.specs.Meaning.{verdictMeans, headerMeans, nodeMeans, blockMeans, sizedMeans, dataMeans, spanMeans, propertyMeans, tableMeans, columnMeans, countMeans, cellMeans, rowMeans, cellsMeans}
-use Rattle.pst.specs.Outcomes.{headerOutcome, nodesOutcome, blocksOutcome, nodeOutcome, listOutcome, blockOutcome, nextNodeOutcome, nextBlockOutcome, testOutcome, readOutcome, dataOutcome, codeOutcome, heapOutcome, testItemOutcome, spanOutcome, propertyOutcome, tableOutcome, columnOutcome, countOutcome, cellOutcome, rowOutcome, readRowOutcome}
+use Rattle.pst.specs.Outcomes.{headerOutcome, nodesOutcome, blocksOutcome, nodeOutcome, listOutcome, blockOutcome, nextNodeOutcome, nextBlockOutcome, testOutcome, readOutcome, dataOutcome, codeOutcome, heapOutcome, testItemOutcome, spanOutcome, propertyOutcome, tableOutcome, columnOutcome, countOutcome, cellOutcome, rowOutcome, row32Outcome, readRowOutcome}
 use Rattle.pst.specs.Demands.{Told, methodRules, FirstDemand}
 use Rattle.pst.proofs.Refusals.{verdict-told, header-verdict, header-told, node-told, block-told, sized-told, data-told, span-told, property-told, table-told, column-told, count-told, cell-told, row-told, cells-told}
 use Rattle.pst.proofs.Untouched.{list-untouched, read-untouched, data-untouched, encode-untouched, decode-untouched, row-untouched}
@@ -43,45 +42,45 @@ header-call : (image : List ℕ) → Told headerMeans (headerRules image) (heade
 unfolding headerOutcome headerOf headerFits
 header-call image = header-told _ (headerRules image) (header-verdict _ _)
 
-nodes-call : (image : List ℕ) → Told verdictMeans (treeRules nbt image) (nodesOutcome image)
+nodes-call : (image : List ℕ) → Told verdictMeans (treeRules (nodesOf image) image) (nodesOutcome image)
 unfolding nodesOutcome treeFits
-nodes-call image = verdict-told _ (treeRules nbt image) refl
+nodes-call image = verdict-told _ (treeRules (nodesOf image) image) refl
 
-blocks-call : (image : List ℕ) → Told verdictMeans (treeRules bbt image) (blocksOutcome image)
+blocks-call : (image : List ℕ) → Told verdictMeans (treeRules (blocksOf image) image) (blocksOutcome image)
 unfolding blocksOutcome treeFits
-blocks-call image = verdict-told _ (treeRules bbt image) refl
+blocks-call image = verdict-told _ (treeRules (blocksOf image) image) refl
 
-find-node-call : (image : List ℕ) (node : ℕ) → Told nodeMeans (searchRules Equal nbt image node) (nodeOutcome image node)
+find-node-call : (image : List ℕ) (node : ℕ) → Told nodeMeans (searchRules Equal (nodesOf image) image node) (nodeOutcome image node)
 unfolding nodeOutcome nodeOf
-find-node-call image node = node-told nbt _ (searchRules Equal nbt image node) (search-tried Equal nbt image node)
+find-node-call image node = node-told (nodesOf image) _ (searchRules Equal (nodesOf image) image node) (search-tried Equal (nodesOf image) image node)
 
 find-nodes-call : (nodes area : List ℕ) → Told verdictMeans (listRules (length nodes) (length area)) (listOutcome nodes area)
 unfolding listOutcome listFits
 find-nodes-call nodes area = verdict-told _ (listRules (length nodes) (length area)) refl
 
-find-block-call : (image : List ℕ) (block : ℕ) → Told blockMeans (searchRules Equal bbt image block) (blockOutcome image block)
+find-block-call : (image : List ℕ) (block : ℕ) → Told blockMeans (searchRules Equal (blocksOf image) image block) (blockOutcome image block)
 unfolding blockOutcome blockOf
-find-block-call image block = block-told bbt _ (searchRules Equal bbt image block) (search-tried Equal bbt image block)
+find-block-call image block = block-told (blocksOf image) _ (searchRules Equal (blocksOf image) image block) (search-tried Equal (blocksOf image) image block)
 
-next-node-call : (image : List ℕ) (from : ℕ) → Told nodeMeans (searchRules AtLeast nbt image from) (nextNodeOutcome image from)
+next-node-call : (image : List ℕ) (from : ℕ) → Told nodeMeans (searchRules AtLeast (nodesOf image) image from) (nextNodeOutcome image from)
 unfolding nextNodeOutcome nextNodeOf
-next-node-call image from = node-told nbt _ (searchRules AtLeast nbt image from) (search-tried AtLeast nbt image from)
+next-node-call image from = node-told (nodesOf image) _ (searchRules AtLeast (nodesOf image) image from) (search-tried AtLeast (nodesOf image) image from)
 
-next-block-call : (image : List ℕ) (from : ℕ) → Told blockMeans (searchRules AtLeast bbt image from) (nextBlockOutcome image from)
+next-block-call : (image : List ℕ) (from : ℕ) → Told blockMeans (searchRules AtLeast (blocksOf image) image from) (nextBlockOutcome image from)
 unfolding nextBlockOutcome nextBlockOf
-next-block-call image from = block-told bbt _ (searchRules AtLeast bbt image from) (search-tried AtLeast bbt image from)
+next-block-call image from = block-told (blocksOf image) _ (searchRules AtLeast (blocksOf image) image from) (search-tried AtLeast (blocksOf image) image from)
 
-test-block-call : (image : List ℕ) (block : ℕ) → Told sizedMeans (testRules image block) (testOutcome image block)
+test-block-call : (image : List ℕ) (block : ℕ) → Told sizedMeans (testRules (editionOf image) image block) (testOutcome image block)
 unfolding testOutcome
-test-block-call image block = sized-told _ (testRules image block) (size-tried image block)
+test-block-call image block = sized-told _ (testRules (editionOf image) image block) (size-tried (editionOf image) image block)
 
-read-block-call : (image : List ℕ) (block : ℕ) (out : List ℕ) → Told sizedMeans (readRules image block (length out)) (readOutcome image block out)
+read-block-call : (image : List ℕ) (block : ℕ) (out : List ℕ) → Told sizedMeans (readRules (editionOf image) image block (length out)) (readOutcome image block out)
 unfolding readOutcome
-read-block-call image block out = sized-told _ (readRules image block (length out)) (read-tried image block (length out))
+read-block-call image block out = sized-told _ (readRules (editionOf image) image block (length out)) (read-tried (editionOf image) image block (length out))
 
-read-node-call : (image : List ℕ) (node : ℕ) (out : List ℕ) → Told dataMeans (dataRules image node (length out)) (dataOutcome image node out)
+read-node-call : (image : List ℕ) (node : ℕ) (out : List ℕ) → Told dataMeans (dataRules (editionOf image) image node (length out)) (dataOutcome image node out)
 unfolding dataOutcome
-read-node-call image node out = data-told _ (dataRules image node (length out)) (data-tried image node (length out))
+read-node-call image node out = data-told _ (dataRules (editionOf image) image node (length out)) (data-tried (editionOf image) image node (length out))
 
 then-accepted : (v : Verdict) → (v then Accepted) ≡ v
 unfolding after
@@ -124,9 +123,13 @@ cell-call : (block rows : List ℕ) (row tag : ℕ) → Told cellMeans (cellRule
 unfolding cellOutcome
 cell-call block rows row tag = cell-told _ (cellRules block rows row tag) (cell-refused-exactly block rows row tag)
 
-row-call : (block : List ℕ) (id : ℕ) → Told rowMeans (rowRules block id) (rowOutcome block id)
+row-call : (block : List ℕ) (id : ℕ) → Told rowMeans (rowRules rowIndex block id) (rowOutcome block id)
 unfolding rowOutcome
-row-call block id = row-told _ (rowRules block id) (row-refused-exactly block id)
+row-call block id = row-told _ (rowRules rowIndex block id) (row-refused-exactly rowIndex block id)
+
+row32-call : (block : List ℕ) (id : ℕ) → Told rowMeans (rowRules rowIndex32 block id) (row32Outcome block id)
+unfolding row32Outcome
+row32-call block id = row-told _ (rowRules rowIndex32 block id) (row-refused-exactly rowIndex32 block id)
 
 read-row-call : (block rows : List ℕ) (row : ℕ) (area : List ℕ) → Told cellsMeans (readRowRules block rows row (length area)) (readRowOutcome block rows row area)
 unfolding readRowOutcome
@@ -156,6 +159,7 @@ first-demand =
       count-rows = count-call;
       cell = cell-call;
       find-row = row-call;
+      find-row32 = row32-call;
       read-row = read-row-call;
       find-nodes-leaves = list-untouched;
       read-block-leaves = read-untouched;

@@ -101,6 +101,7 @@ header-answer r (answered v) =
       nodes = record { number = getD v 1 0; offset = getD v 2 0 };
       blocks = record { number = getD v 3 0; offset = getD v 4 0 };
       end = getD v 5 0;
+      edition = getD v 6 0;
     })
 header-answer r (absent v) = header.Refused r
 header-answer r (refused n place more) = header.Refused r

@@ -13,3 +13,4 @@ pub mod ThirdRequest
 pub mod FourthRequest
 pub mod FifthRequest
 pub mod SixthRequest
+pub mod SeventhRequest

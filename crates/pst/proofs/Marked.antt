@@ -10,7 +10,8 @@ use Rattle.refusal.specs.Order.{demand}
 use Rattle.remainder.specs.Remainder.{bits, bit}
 use Rattle.crc.specs.Checksum.{checksum, checksumFrom}
 use Rattle.page.specs.Page.{signature}
-use Rattle.block.specs.Block.{room, roomFor, trailer64}
+use Rattle.block.specs.Block.{room, roomFor}
+use Rattle.edition.specs.Editions.{trailer64}
 use Rattle.heap.specs.Items.{itemKind, itemIndex, itemBlock, itemFits, badItem}
 
 -- what a rule gives, beside what document 01 says that it gives

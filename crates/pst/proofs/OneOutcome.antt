@@ -53,6 +53,8 @@ use Rattle.pst.proofs.cell.Reads as cell
 use Rattle.pst.proofs.cell.Kinds as cell-kinds
 use Rattle.pst.proofs.find_row.Reads as find-row
 use Rattle.pst.proofs.find_row.Kinds as find-row-kinds
+use Rattle.pst.proofs.find_row32.Reads as find-row32
+use Rattle.pst.proofs.find_row32.Kinds as find-row32-kinds
 use Rattle.pst.proofs.read_row.Reads as read-row
 use Rattle.pst.proofs.read_row.Kinds as read-row-kinds
 use Rattle.pst.proofs.checksum.Reads as checksum
@@ -61,6 +63,8 @@ use Rattle.pst.proofs.signature.Reads as signature
 use Rattle.pst.proofs.signature.Kinds as signature-kinds
 use Rattle.pst.proofs.room.Reads as room
 use Rattle.pst.proofs.room.Kinds as room-kinds
+use Rattle.pst.proofs.room32.Reads as room32
+use Rattle.pst.proofs.room32.Kinds as room32-kinds
 
 -- two results that meet the contract at the same arguments are the same
 abbrev pub Single : (n : ℕ) (ps : List (PK n)) (r : RK n) → Out n ps r → Type 0
@@ -143,6 +147,9 @@ cell-single κs a x y s t p q = cell-injective x y (p ∙ sym q)
 find-row-single : Single 1 find-row-kinds.ps find-row-kinds.r find-row.Post
 find-row-single κs a x y s t p q = row-injective x y (p ∙ sym q)
 
+find-row32-single : Single 1 find-row32-kinds.ps find-row32-kinds.r find-row32.Post
+find-row32-single κs a x y s t p q = row-injective x y (p ∙ sym q)
+
 -- every word of the area
 read-row-single : (κs : Lfts 2) (a : Dens κs read-row-kinds.ps) (x y : resT read-row-kinds.r κs .Denot) (s t : AtExit (endedOf 2 read-row-kinds.ps read-row-kinds.r) κs)
     → read-row.Post κs a x s → read-row.Post κs a y t → (x ≡ y) × (now (s .1 .1 .1 .0) ≡ now (t .1 .1 .1 .0))
@@ -156,3 +163,6 @@ signature-single κs a x y s t p q = p ∙ sym q
 
 room-single : Single 0 room-kinds.ps room-kinds.r room.Post
 room-single κs a x y s t p q = p ∙ sym q
+
+room32-single : Single 0 room32-kinds.ps room32-kinds.r room32.Post
+room32-single κs a x y s t p q = p ∙ sym q

@@ -24,10 +24,10 @@ use Rattle.search.specs.SearchTree.{test}
 use Rattle.search.specs.Answer.{answer}
 use Rattle.header.specs.declared.Header.{Header}
 use Rattle.header.specs.declared.HeaderAnswer.the-variants as header
-use Rattle.header.specs.Header.{headerFits, headerOf, says}
+use Rattle.header.specs.Header.{editionOf, nodesOf, blocksOf, headerFits, headerOf, says}
 use Rattle.header.specs.Sound.{HeaderSound}
+use Rattle.header.proofs.EditionLaws.{fair-edition}
 use Rattle.header.proofs.HeaderLaws.{header-exactly}
-use Rattle.page.specs.Layout.{nbt, bbt}
 use Rattle.tree.specs.declared.Listed.{Listed}
 use Rattle.tree.specs.declared.FoundBlock.the-variants as block
 use Rattle.tree.specs.Tree.{treeFits}
@@ -41,7 +41,7 @@ use Rattle.block.specs.Block.{checkedBlock, sizeIn, testOf, fitting, readIn, re
 use Rattle.block.proofs.BlockLaws.{read-fills}
 use Rattle.block.proofs.Exactly.{checked-exactly}
 use Rattle.node.specs.declared.NodeRead.the-variants as read
-use Rattle.node.specs.Content.{Content, nodeContent, answerTo, filledBy}
+use Rattle.node.specs.Content.{Content, nodeContent, answerTo, filledBy, mostData}
 use Rattle.node.specs.Content as content
 use Rattle.node.specs.Named.{Named}
 use Rattle.node.proofs.Exactly.{node-exactly}
@@ -90,13 +90,13 @@ header-holds image = (
 )
 
 -- the trees
-node-tree-holds : (image : List ℕ) → (nodesOutcome image ≡ answered []) ↔ TreeSound nbt image
+node-tree-holds : (image : List ℕ) → (nodesOutcome image ≡ answered []) ↔ TreeSound (nodesOf image) image
 unfolding nodesOutcome
-node-tree-holds image = both-ways (accepted-means (treeFits nbt image)) (tree-exactly nbt image)
+node-tree-holds image = both-ways (accepted-means (treeFits (nodesOf image) image)) (tree-exactly (nodesOf image) image)
 
-block-tree-holds : (image : List ℕ) → (blocksOutcome image ≡ answered []) ↔ TreeSound bbt image
+block-tree-holds : (image : List ℕ) → (blocksOutcome image ≡ answered []) ↔ TreeSound (blocksOf image) image
 unfolding blocksOutcome
-block-tree-holds image = both-ways (accepted-means (treeFits bbt image)) (tree-exactly bbt image)
+block-tree-holds image = both-ways (accepted-means (treeFits (blocksOf image) image)) (tree-exactly (blocksOf image) image)
 
 size-is : {m n : ℕ} → sized.Size m ≡ sized.Size n → m ≡ n
 size-is e = cc
@@ -105,23 +105,23 @@ block-size : (b : Listed) (size : ℕ) → b .size ≡ size → sizedMeans (size
 unfolding sizedMeans
 block-size b size e = ap (λ (n : ℕ). answered (n ∷ [])) e
 
-read-is : (image : List ℕ) (number space : ℕ) → readIn (checkedBlock image number) space ≡ readOf image number space
+read-is : (image : List ℕ) (number space : ℕ) → readIn (checkedBlock (editionOf image) image number) space ≡ readOf (editionOf image) image number space
 unfolding readOf
 read-is image number space = refl
 
 -- a block that passed its tests
 module _ (image : List ℕ) (number : ℕ) where
   -- what the public lookup says of it
-  checked-sound : (b : Listed) → checkedBlock image number ≡ checked.Block b → SoundBlock image number b
+  checked-sound : (b : Listed) → checkedBlock (editionOf image) image number ≡ checked.Block b → SoundBlock image number b
   unfolding blockOutcome
-  checked-sound b e = let h = checked-exactly image number b .0 e in record { pages = h .pages; found = ap blockMeans (h .found); sound = h .sound }
+  checked-sound b e = let h = checked-exactly (editionOf image) image number b .0 e in record { pages = h .pages; found = ap blockMeans (h .found); sound = h .sound }
 
-  sound-checked : (b : Listed) → SoundBlock image number b → checkedBlock image number ≡ checked.Block b
+  sound-checked : (b : Listed) → SoundBlock image number b → checkedBlock (editionOf image) image number ≡ checked.Block b
   unfolding blockOutcome
   sound-checked b s =
-      checked-exactly image number b .1 (record { pages = s .pages; found = block-injective _ (block.Found b (s .pages)) (s .found); sound = s .sound })
+      checked-exactly (editionOf image) image number b .1 (record { pages = s .pages; found = block-injective _ (block.Found b (s .pages)) (s .found); sound = s .sound })
 
-  size-block : (c : Checked) (size : ℕ) → checkedBlock image number ≡ c → sizeIn c ≡ sized.Size size → BlockOfSize image number size
+  size-block : (c : Checked) (size : ℕ) → checkedBlock (editionOf image) image number ≡ c → sizeIn c ≡ sized.Size size → BlockOfSize image number size
   unfolding sizeIn
   size-block (checked.Block b) size e q = record { listed = b; sound = checked-sound b e; same-size = size-is q }
   size-block (checked.Refused r) size e q = let clash : _≡_ {A = ℕ} 0 1 = cc in absurd (omega arith)
@@ -129,12 +129,12 @@ module _ (image : List ℕ) (number : ℕ) where
   tested-holds : (size : ℕ) → (testOutcome image number ≡ answered (size ∷ [])) ↔ BlockOfSize image number size
   unfolding testOutcome testOf sizedMeans sizeIn
   tested-holds size = (
-    (λ e. size-block (checkedBlock image number) size refl (sized-injective _ (sized.Size size) e)),
+    (λ e. size-block (checkedBlock (editionOf image) image number) size refl (sized-injective _ (sized.Size size) e)),
     (λ b. ap (λ c. sizedMeans (sizeIn c)) (sound-checked (b .listed) (b .sound)) ∙ block-size (b .listed) size (b .same-size)),
   )
 
   -- a read asks for room besides
-  space-block : (c : Checked) (size space : ℕ) → checkedBlock image number ≡ c → readIn c space ≡ sized.Size size → BlockOfSize image number size × (size ≤ space)
+  space-block : (c : Checked) (size space : ℕ) → checkedBlock (editionOf image) image number ≡ c → readIn c space ≡ sized.Size size → BlockOfSize image number size × (size ≤ space)
   unfolding readIn fitting
   space-block (checked.Block b) size space e q = by (leb (b .size) space) refl q
     where
@@ -148,28 +148,28 @@ module _ (image : List ℕ) (number : ℕ) where
   read-holds : (size : ℕ) (out : List ℕ) → (readOutcome image number out ≡ answered (size ∷ [])) ↔ (BlockOfSize image number size × (size ≤ length out))
   unfolding readOutcome sizedMeans
   read-holds size out = (
-    (λ e. space-block (checkedBlock image number) size (length out) refl (read-is image number (length out) ∙ sized-injective _ (sized.Size size) e)),
-    (λ b. ap sizedMeans (sym (read-fills image number out (b .0 .listed) (sound-checked (b .0 .listed) (b .0 .sound)) (rw (b .0 .same-size) (b .1)) .0))
+    (λ e. space-block (checkedBlock (editionOf image) image number) size (length out) refl (read-is image number (length out) ∙ sized-injective _ (sized.Size size) e)),
+    (λ b. ap sizedMeans (sym (read-fills (editionOf image) image number out (b .0 .listed) (sound-checked (b .0 .listed) (b .0 .sound)) (rw (b .0 .same-size) (b .1)) .0))
         ∙ block-size (b .0 .listed) size (b .0 .same-size)),
   )
 
   bytes-hold : (out : List ℕ) (b : Listed) → SoundBlock image number b → b .size ≤ length out → readBuffer image number out ≡ fronted (blockBytes image b) out
   unfolding readBuffer
-  bytes-hold out b s h = sym (read-fills image number out b (sound-checked b s) h .1)
+  bytes-hold out b s h = sym (read-fills (editionOf image) image number out b (sound-checked b s) h .1)
 
 -- node data
 length-is : {m n : ℕ} → read.Length m ≡ read.Length n → m ≡ n
 length-is e = cc
 
 module _ (image : List ℕ) (node : ℕ) where
-  content-data : (c : Content) (size space : ℕ) → nodeContent image node ≡ c → answerTo c space ≡ read.Length size → DataOfSize image node space size
+  content-data : (c : Content) (size space : ℕ) → nodeContent (editionOf image) image node ≡ c → answerTo c space ≡ read.Length size → DataOfSize image node space size
   unfolding answerTo
   content-data (content.bytes s) size space e q = by (leb (length s) space) refl q
     where
       by : (w : Bool) → leb (length s) space ≡ w → cond w (read.Length (length s)) (read.Refused (ShortBuffer needing length s)) ≡ read.Length size → DataOfSize image node space size
       by true t z =
           let same : length s ≡ size = length-is z in
-          record { bytes = s; named = node-exactly image node s .0 e; long = same; fits = subst (λ (n : ℕ). n ≤ space) same (leb-true (length s) space t) }
+          record { bytes = s; named = node-exactly (editionOf image) image node s .0 e; long = same; fits = subst (λ (n : ℕ). n ≤ space) same (leb-true (length s) space t) }
       by false t z = let clash : _≡_ {A = ℕ} 0 1 = cc in absurd (omega arith)
   content-data content.absent size space e q = let clash : _≡_ {A = ℕ} 0 1 = cc in absurd (omega arith)
   content-data (content.refused r) size space e q = let clash : _≡_ {A = ℕ} 0 1 = cc in absurd (omega arith)
@@ -181,22 +181,23 @@ module _ (image : List ℕ) (node : ℕ) where
   data-holds : (size : ℕ) (out : List ℕ) → (dataOutcome image node out ≡ answered (size ∷ [])) ↔ DataOfSize image node (length out) size
   unfolding dataOutcome dataMeans
   data-holds size out = (
-    (λ e. content-data (nodeContent image node) size (length out) refl (data-injective _ (read.Length size) e)),
-    (λ d. ap dataMeans (ap (λ c. answerTo c (length out)) (node-exactly image node (d .bytes) .1 (d .named)) ∙ answer-fits (d .bytes) size (length out) (d .long) (d .fits))),
+    (λ e. content-data (nodeContent (editionOf image) image node) size (length out) refl (data-injective _ (read.Length size) e)),
+    (λ d. ap dataMeans (ap (λ c. answerTo c (length out)) (node-exactly (editionOf image) image node (d .bytes) .1 (d .named)) ∙ answer-fits (d .bytes) size (length out) (d .long) (d .fits))),
   )
 
   buffer-fits : (s out : List ℕ) → length s ≤ length out → filledBy (content.bytes s) out ≡ fronted s out
   unfolding filledBy
   buffer-fits s out h = rw (le-leb (length s) (length out) h)
 
-  data-fills : (out bytes : List ℕ) → Named image node bytes → length bytes ≤ length out → dataBuffer image node out ≡ fronted bytes out
+  data-fills : (out bytes : List ℕ) → Named (editionOf image) image node bytes → length bytes ≤ length out → dataBuffer image node out ≡ fronted bytes out
   unfolding dataBuffer
-  data-fills out bytes n h = ap (λ c. filledBy c out) (node-exactly image node bytes .1 n) ∙ buffer-fits bytes out h
+  data-fills out bytes n h = ap (λ c. filledBy c out) (node-exactly (editionOf image) image node bytes .1 n) ∙ buffer-fits bytes out h
 
-  data-most : (size : ℕ) (out : List ℕ) → dataOutcome image node out ≡ answered (size ∷ []) → size ≤ 8347696
+  data-most : (size : ℕ) (out : List ℕ) → dataOutcome image node out ≡ answered (size ∷ []) → size ≤ mostData (editionOf image)
   data-most size out e =
       let d = data-holds size out .0 e in
-      subst (λ (n : ℕ). n ≤ 8347696) (d .long) (node-most image node (d .bytes) (node-exactly image node (d .bytes) .1 (d .named)))
+      subst (λ (n : ℕ). n ≤ mostData (editionOf image)) (d .long)
+      (node-most (editionOf image) (fair-edition image) image node (d .bytes) (node-exactly (editionOf image) image node (d .bytes) .1 (d .named)))
 
 -- heaps and items
 heap-holds : (block : List ℕ) → (heapOutcome block ≡ answered []) ↔ Heap block

@@ -4,7 +4,6 @@ use mathlib.Core.Path.{_≡_, refl, sym, ap, _∙_}
 use mathlib.Core.Bool.{false}
 use mathlib.Core.Option.{Option, none, some}
 use mathlib.Core.List.{List, [], _∷_}
-use native.Mathlib.Nat.{le-refl}
 use native.Mathlib.Omega.{arith}
 use lib.ListN.{length, getD}
 use Rattle.refusal.specs.declared.Refusal.{Refusal}
@@ -15,13 +14,18 @@ use Rattle.keys.proofs.FoundLaws.{missing-exactly}
 use Rattle.search.specs.Answer.{Answer, found, refused, answer}
 use Rattle.search.specs.Answer as search
 use Rattle.search.specs.Promises.{Counts}
-use Rattle.page.specs.declared.Layout.{Layout}
-use Rattle.page.specs.Layout.{nbt, bbt, compared, FairLayout}
+use Rattle.le.specs.Bytes.{part, field}
+use Rattle.edition.specs.declared.Layout.{Layout}
+use Rattle.edition.specs.declared.Edition.{Edition}
+use Rattle.page.specs.Layout.{compared}
+use Rattle.edition.specs.Fair.{FairLayout}
 use Rattle.page.specs.Page.{numberIn, keyIn}
-use Rattle.page.proofs.Fairs.{fair-nbt, fair-bbt}
+use Rattle.header.specs.Header.{editionOf, nodesOf, blocksOf}
+use Rattle.header.proofs.EditionLaws.{fair-nodes, fair-blocks}
+use Rattle.header.proofs.HeaderLaws.{edition-agrees}
 use Rattle.tree.specs.Tree.{treeFits, scan}
 use Rattle.tree.specs.Lookup.{lookup, next, path}
-use Rattle.tree.specs.Answers.{fieldsOf, shown, asNode, asBlock, nodeOf, blockOf, nextNodeOf, nextBlockOf}
+use Rattle.tree.specs.Answers.{columnOf, fieldsOf, shown, asNode, asBlock, nodeOf, blockOf, nextNodeOf, nextBlockOf}
 use Rattle.tree.proofs.Demand3.{demand3}
 use Rattle.tree.proofs.InOrder.{path-counted, in-order}
 use Rattle.tree.proofs.OffPath.{off-path, off-read}
@@ -49,13 +53,13 @@ record Plain (says : Answer (List ℕ) → Meaning) : Type 0 where
   of-absent : (n : ℕ) → says (search.absent n) ≡ absent (n ∷ [])
   of-refused : (r : Refusal) → caseIn (says (refused r)) ≡ 2
 
-node-plain : Plain nodeSays
+node-plain : (L : Layout) → Plain (nodeSays L)
 unfolding caseIn countIn refuses nodeMeans refusalMeans asNode shown
-node-plain = record { of-found = λ e n. (refl, refl, refl); of-absent = λ n. refl; of-refused = λ r. refl }
+node-plain L = record { of-found = λ e n. (refl, refl, refl); of-absent = λ n. refl; of-refused = λ r. refl }
 
-block-plain : Plain blockSays
+block-plain : (L : Layout) → Plain (blockSays L)
 unfolding caseIn countIn refuses blockMeans refusalMeans asBlock shown
-block-plain = record { of-found = λ e n. (refl, refl, refl); of-absent = λ n. refl; of-refused = λ r. refl }
+block-plain L = record { of-found = λ e n. (refl, refl, refl); of-absent = λ n. refl; of-refused = λ r. refl }
 
 module _ (says : Answer (List ℕ) → Meaning) (plain : Plain says) where
   absent-case : (n : ℕ) → caseIn (says (search.absent n)) ≡ 1
@@ -95,7 +99,7 @@ unfolding verdictMeans
 fits L image e = verdict-injective (treeFits L image) Accepted e
 
 -- of either tree
-module _ (L : Layout) (fair : FairLayout L) (says : Answer (List ℕ) → Meaning) (plain : Plain says) where
+module _ (L : Layout) (says : Answer (List ℕ) → Meaning) (plain : Plain says) where
   lookups : (image : List ℕ) → treeFits L image ≡ Accepted → Lookups L says (λ key. says (lookup L image key)) image
   unfolding answer
   lookups image ok =
@@ -111,60 +115,81 @@ module _ (L : Layout) (fair : FairLayout L) (says : Answer (List ℕ) → Meanin
         one-route = d .one-route;
       }
 
-  paths : Paths L says (λ image key. says (lookup L image key))
+-- of either tree in any image: L says which layout the tree of an image has, and images with the same header have the same
+module _ (L : List ℕ → Layout) (fair : (image : List ℕ) → FairLayout (L image)) (same : (one other : List ℕ) → part one 0 564 ≡ part other 0 564 → L one ≡ L other)
+    (says : Layout → Answer (List ℕ) → Meaning) (plain : (l : Layout) → Plain (says l)) where
+  paths : Paths L says (λ image key. says (L image) (lookup (L image) image key))
   paths =
       record {
-        found-count = λ image key e n q. found-counts says plain _ (lookup L image key) (path-counted L image key .counts) e n q;
-        absent-count = λ image key n q. absent-counts says plain _ (lookup L image key) (path-counted L image key .counts) n q;
-        short = λ image key. path-counted L image key .short;
-        off-path = λ key one other same. ap says (off-path L key one other fair same);
+        found-count = λ image key e n q. found-counts (says (L image)) (plain (L image)) _ (lookup (L image) image key) (path-counted (L image) image key .counts) e n q;
+        absent-count = λ image key n q. absent-counts (says (L image)) (plain (L image)) _ (lookup (L image) image key) (path-counted (L image) image key .counts) n q;
+        short = λ image key. path-counted (L image) image key .short;
+        off-path = λ key one other agree.
+            ap (says (L one)) (off-path (L one) key one other (fair one) agree) ∙ ap (λ (l : Layout). says l (lookup l other key)) (same one other (agree .same-header));
       }
 
-  listings : L .key ≤ L .sought → ((entry : List ℕ) (pages : ℕ) → FirstValue (numberIn L entry) (says (found entry pages))) → Listings L says (λ image. verdictMeans (treeFits L image)) (λ image from. says (next L image from))
-  listings small handed =
+  listings : ((l : Layout) → FairLayout l → (entry : List ℕ) (pages : ℕ) → FirstValue (numberIn l entry) (says l (found entry pages)))
+      → Listings L says (λ image. verdictMeans (treeFits (L image) image)) (λ image from. says (L image) (next (L image) image from))
+  listings handed =
       record {
-        answers = λ image from e. let s = listing L image (fits L image e) .answers from in record { pages = s .count; is = ap says (s .is) };
-        never-refused = λ image from e. let s = listing L image (fits L image e) .answers from in ap (λ a. refuses (says a)) (s .is) ∙ says-answer says plain _ _;
-        lists = λ image bytes e. lists L image small bytes (fits L image e);
-        handed-out = handed;
-        found-count = λ image from e n q. found-counts says plain _ (next L image from) (in-order AtLeast L image from .counts) e n q;
-        absent-count = λ image from n q. absent-counts says plain _ (next L image from) (in-order AtLeast L image from .counts) n q;
-        few = few-pages-read L;
-        off-read = λ from one other same. ap says (off-read AtLeast L from one other fair same);
+        answers = λ image from e. let s = listing (L image) image (fits (L image) image e) .answers from in record { pages = s .count; is = ap (says (L image)) (s .is) };
+        never-refused = λ image from e.
+            let s = listing (L image) image (fits (L image) image e) .answers from in ap (λ a. refuses (says (L image) a)) (s .is) ∙ says-answer (says (L image)) (plain (L image)) _ _;
+        lists = λ image bytes e. lists (L image) image (fair image .asked) bytes (fits (L image) image e);
+        handed-out = λ image entry pages. handed (L image) (fair image) entry pages;
+        found-count = λ image from e n q. found-counts (says (L image)) (plain (L image)) _ (next (L image) image from) (in-order AtLeast (L image) image from .counts) e n q;
+        absent-count = λ image from n q. absent-counts (says (L image)) (plain (L image)) _ (next (L image) image from) (in-order AtLeast (L image) image from .counts) n q;
+        few = λ image from. few-pages-read (L image) image from;
+        off-read = λ from one other agree.
+            ap (says (L one)) (off-read AtLeast (L one) from one other (fair one) agree) ∙ ap (λ (l : Layout). says l (next l other from)) (same one other (agree .same-header));
       }
 
-node-lookups : (image : List ℕ) → nodesOutcome image ≡ answered [] → Lookups nbt nodeSays (nodeOutcome image) image
+same-nodes : (one other : List ℕ) → part one 0 564 ≡ part other 0 564 → nodesOf one ≡ nodesOf other
+same-nodes one other e = ap (λ (E : Edition). E .nodes) (edition-agrees one other e)
+
+same-blocks : (one other : List ℕ) → part one 0 564 ≡ part other 0 564 → blocksOf one ≡ blocksOf other
+same-blocks one other e = ap (λ (E : Edition). E .blocks) (edition-agrees one other e)
+
+node-lookups : (image : List ℕ) → nodesOutcome image ≡ answered [] → Lookups (nodesOf image) (nodeSays (nodesOf image)) (nodeOutcome image) image
 unfolding nodesOutcome nodeOutcome nodeOf
-node-lookups image e = lookups nbt fair-nbt nodeSays node-plain image (fits nbt image e)
+node-lookups image e = lookups (nodesOf image) (nodeSays (nodesOf image)) (node-plain (nodesOf image)) image (fits (nodesOf image) image e)
 
-block-lookups : (image : List ℕ) → blocksOutcome image ≡ answered [] → Lookups bbt blockSays (blockOutcome image) image
+block-lookups : (image : List ℕ) → blocksOutcome image ≡ answered [] → Lookups (blocksOf image) (blockSays (blocksOf image)) (blockOutcome image) image
 unfolding blocksOutcome blockOutcome blockOf
-block-lookups image e = lookups bbt fair-bbt blockSays block-plain image (fits bbt image e)
+block-lookups image e = lookups (blocksOf image) (blockSays (blocksOf image)) (block-plain (blocksOf image)) image (fits (blocksOf image) image e)
 
-node-paths : Paths nbt nodeSays nodeOutcome
+node-paths : Paths nodesOf nodeSays nodeOutcome
 unfolding nodeOutcome nodeOf
-node-paths = paths nbt fair-nbt nodeSays node-plain
+node-paths = paths nodesOf fair-nodes same-nodes nodeSays node-plain
 
-block-paths : Paths bbt blockSays blockOutcome
+block-paths : Paths blocksOf blockSays blockOutcome
 unfolding blockOutcome blockOf
-block-paths = paths bbt fair-bbt blockSays block-plain
+block-paths = paths blocksOf fair-blocks same-blocks blockSays block-plain
 
 pub third-demand : ThirdDemand
 third-demand = record { nodes = node-lookups; blocks = block-lookups; node-paths = node-paths; block-paths = block-paths }
 
--- beyond the demands
-node-handed : (entry : List ℕ) (pages : ℕ) → FirstValue (numberIn nbt entry) (nodeSays (found entry pages))
-unfolding nodeMeans asNode shown fieldsOf numberIn nbt
-node-handed entry pages = record { others = _; is = refl }
+-- beyond the demands: the first number of an entry is the one at its front
+first-column : (L : Layout) → FairLayout L → (entry : List ℕ) → columnOf entry (L .first) ≡ numberIn L entry
+unfolding numberIn
+first-column L fair entry = ap (λ (place : ℕ). field entry place (L .first .width)) (fair .front .0) ∙ ap (field entry 0) (fair .front .1)
 
-block-handed : (entry : List ℕ) (pages : ℕ) → FirstValue (numberIn bbt entry) (blockSays (found entry pages))
-unfolding blockMeans asBlock shown fieldsOf numberIn bbt
-block-handed entry pages = record { others = _; is = refl }
+node-handed : (L : Layout) → FairLayout L → (entry : List ℕ) (pages : ℕ) → FirstValue (numberIn L entry) (nodeSays L (found entry pages))
+unfolding nodeMeans asNode shown fieldsOf
+node-handed L fair entry pages =
+    let others = columnOf entry (L .second) ∷ columnOf entry (L .third) ∷ columnOf entry (L .fourth) ∷ pages ∷ [] in
+    record { others = others; is = ap (λ (n : ℕ). answered (n ∷ others)) (first-column L fair entry) }
 
-pub node-listings : Listings nbt nodeSays nodesOutcome nextNodeOutcome
-unfolding nodesOutcome nextNodeOutcome nextNodeOf nbt
-node-listings = listings nbt fair-nbt nodeSays node-plain (le-refl 4) node-handed
+block-handed : (L : Layout) → FairLayout L → (entry : List ℕ) (pages : ℕ) → FirstValue (numberIn L entry) (blockSays L (found entry pages))
+unfolding blockMeans asBlock shown fieldsOf
+block-handed L fair entry pages =
+    let others = columnOf entry (L .second) ∷ columnOf entry (L .third) ∷ columnOf entry (L .fourth) ∷ pages ∷ [] in
+    record { others = others; is = ap (λ (n : ℕ). answered (n ∷ others)) (first-column L fair entry) }
 
-pub block-listings : Listings bbt blockSays blocksOutcome nextBlockOutcome
-unfolding blocksOutcome nextBlockOutcome nextBlockOf bbt
-block-listings = listings bbt fair-bbt blockSays block-plain (le-refl 8) block-handed
+pub node-listings : Listings nodesOf nodeSays nodesOutcome nextNodeOutcome
+unfolding nodesOutcome nextNodeOutcome nextNodeOf
+node-listings = listings nodesOf fair-nodes same-nodes nodeSays node-plain node-handed
+
+pub block-listings : Listings blocksOf blockSays blocksOutcome nextBlockOutcome
+unfolding blocksOutcome nextBlockOutcome nextBlockOf
+block-listings = listings blocksOf fair-blocks same-blocks blockSays block-plain block-handed

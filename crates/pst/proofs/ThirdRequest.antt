@@ -12,9 +12,8 @@ use Rattle.le.specs.Bytes.{byte}
 use Rattle.le.proofs.FieldLaws.{byte-part}
 use Rattle.refusal.specs.declared.Refusal.{Refusal}
 use Rattle.refusal.specs.declared.Verdict.the-variants.{Accepted, Refused}
-use Rattle.header.specs.Header.{headerFits, headerOf}
+use Rattle.header.specs.Header.{nodesOf, headerFits, headerOf}
 use Rattle.header.specs.declared.HeaderAnswer.the-variants as header
-use Rattle.page.specs.Layout.{nbt}
 use Rattle.tree.specs.declared.FoundNode.{FoundNode}
 use Rattle.tree.specs.declared.FoundNode.the-variants as node
 use Rattle.tree.specs.Answers.{nodeOf}
@@ -41,9 +40,9 @@ module _ (nodes area : List ℕ) where
       ((λ e. exactly .0 (fits e)), (λ h. ap verdictMeans (exactly .1 h)))
 
 module _ (image nodes area : List ℕ) (ok : listOutcome nodes area ≡ answered []) where
-  here : (i : ℕ) → i < length nodes → placeIn (listArea image nodes area) i ≡ placeOf image (getD nodes i 0)
+  here : (i : ℕ) → i < length nodes → placeIn (listArea image nodes area) i ≡ placeOf (nodesOf image) image (getD nodes i 0)
   unfolding listArea
-  here i h = place-is image nodes area (fits nodes area ok) i h
+  here i h = place-is (nodesOf image) image nodes area (fits nodes area ok) i h
 
   told : (i : ℕ) (given : FoundNode) → i < length nodes → (placeIn (listArea image nodes area) i ≡ nodeWords given) ↔ (nodeMeans given ≡ nodeOutcome image (getD nodes i 0))
   unfolding nodeOutcome
@@ -53,12 +52,12 @@ module _ (image nodes area : List ℕ) (ok : listOutcome nodes area ≡ answered
   )
 
 -- a refused header refuses every lookup
-headless : (image : List ℕ) (key : ℕ) (r : Refusal) → headerOutcome image ≡ refusalMeans r → nodeOf image key ≡ node.Refused r
+headless : (image : List ℕ) (key : ℕ) (r : Refusal) → headerOutcome image ≡ refusalMeans r → nodeOf (nodesOf image) image key ≡ node.Refused r
 unfolding headerOutcome headerMeans headerVerdict headerOf
 headless image key r e =
     let is : headerOf image ≡ header.Refused r = header-injective _ (header.Refused r) e in
     let refused : headerFits image ≡ Refused r = header-verdict (headerFits image) _ ∙ ap headerVerdict is in
-    sym (node-refused image key r (sym (start-refused nbt image (headerFits image) r refl refused) ∙ refused))
+    sym (node-refused (nodesOf image) image key r (sym (start-refused (nodesOf image) image (headerFits image) r refl refused) ∙ refused))
 
 -- the first word of an answer that is no refusal
 first-word : (x : FoundNode) → refuses (nodeMeans x) ≡ false → getD (nodeWords x) 0 0 ≡ 0
@@ -83,10 +82,10 @@ third-request =
       too-long = λ nodes area h. ap verdictMeans (sym (too-many (length nodes) (length area) h));
       too-short = λ nodes area few h. ap verdictMeans (sym (too-short (length nodes) (length area) few h));
       places = λ image nodes area i given ok h. told image nodes area ok i given h;
-      past-the-list = past-stays;
-      same-length = area-length;
-      repeated = λ image nodes area i j ok h g same. here image nodes area ok i h ∙ ap (placeOf image) same ∙ sym (here image nodes area ok j g);
-      empty = λ image area. let ok = taken [] area .1 (omega arith, omega arith) in (ok, sym (area-kept image [] area (omega arith) (sym (fits [] area ok))));
+      past-the-list = λ image nodes area. past-stays (nodesOf image) image nodes area;
+      same-length = λ image nodes area. area-length (nodesOf image) image nodes area;
+      repeated = λ image nodes area i j ok h g same. here image nodes area ok i h ∙ ap (placeOf (nodesOf image) image) same ∙ sym (here image nodes area ok j g);
+      empty = λ image area. let ok = taken [] area .1 (omega arith, omega arith) in (ok, sym (area-kept (nodesOf image) image [] area (omega arith) (sym (fits [] area ok))));
       header-refused = λ image nodes area i r e ok h. here image nodes area ok i h ∙ ap nodeWords (headless image (getD nodes i 0) r e);
       never-refused = never-refused;
     }

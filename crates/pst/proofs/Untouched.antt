@@ -29,6 +29,7 @@ use Rattle.rowcells.specs.declared.RowRead.{RowRead}
 use Rattle.rowcells.specs.declared.RowRead.the-variants as cells
 use Rattle.rowcells.specs.RowCells.{rowRead, rowArea}
 use Rattle.rowcells.proofs.ReadLaws.{left-alone}
+use Rattle.header.specs.Header.{editionOf, nodesOf}
 use Rattle.pst.specs.Meaning.{refuses, verdictMeans, sizedMeans, dataMeans, cellsMeans}
 use Rattle.pst.specs.Outcomes.{listOutcome, listArea, readOutcome, readBuffer, dataOutcome, dataBuffer, readRowOutcome, readRowArea, codeOutcome, encodeBuffer, decodeBuffer}
 
@@ -44,7 +45,7 @@ checked-untouched image (checked.Refused r) out e = refl
 
 pub read-untouched : (image : List ℕ) (block : ℕ) (out : List ℕ) → refuses (readOutcome image block out) ≡ true → readBuffer image block out ≡ out
 unfolding readOutcome readBuffer readOf filledOf
-read-untouched image block out e = checked-untouched image (checkedBlock image block) out e
+read-untouched image block out e = checked-untouched image (checkedBlock (editionOf image) image block) out e
 
 content-untouched : (c : Content) (out : List ℕ) → refuses (dataMeans (answerTo c (length out))) ≡ true → filledBy c out ≡ out
 unfolding refuses dataMeans answerTo filledBy
@@ -58,15 +59,15 @@ content-untouched (content.refused r) out e = refl
 
 pub data-untouched : (image : List ℕ) (node : ℕ) (out : List ℕ) → refuses (dataOutcome image node out) ≡ true → dataBuffer image node out ≡ out
 unfolding dataOutcome dataBuffer
-data-untouched image node out e = content-untouched (nodeContent image node) out e
+data-untouched image node out e = content-untouched (nodeContent (editionOf image) image node) out e
 
 pub list-untouched : (image nodes area : List ℕ) → refuses (listOutcome nodes area) ≡ true → listArea image nodes area ≡ area
 unfolding listOutcome listArea refuses verdictMeans
 list-untouched image nodes area = by (listFits (length nodes) (length area)) refl
   where
-    by : (v : Verdict) → listFits (length nodes) (length area) ≡ v → refuses (verdictMeans v) ≡ true → areaOf image nodes area ≡ area
+    by : (v : Verdict) → listFits (length nodes) (length area) ≡ v → refuses (verdictMeans v) ≡ true → areaOf (nodesOf image) image nodes area ≡ area
     by Accepted q h = not-both false h refl
-    by (Refused r) q h = sym (area-left image nodes area r (sym q))
+    by (Refused r) q h = sym (area-left (nodesOf image) image nodes area r (sym q))
 
 pub row-untouched : (block rows : List ℕ) (row : ℕ) (area : List ℕ) → refuses (readRowOutcome block rows row area) ≡ true → readRowArea block rows row area ≡ area
 unfolding readRowOutcome readRowArea refuses cellsMeans

@@ -1,11 +1,11 @@
 -- The user's three demands, of the outcomes of the public calls alone; and what the requests of 02 add to them, of those outcomes, of pages and of blocks. Assumes nothing: these are definitions.
 --
 -- The contract of a call says: what the answer means is the outcome that pst/specs/Outcomes names, and each buffer at exit is the one named there. What holds of every
--- outcome so holds of every call. Proved in pst/proofs/FirstDemand, SecondDemand, ThirdDemand, FirstRequest, SecondRequest, ThirdRequest, FourthRequest, FifthRequest and SixthRequest.
+-- outcome so holds of every call. Proved in pst/proofs/FirstDemand, SecondDemand, ThirdDemand, FirstRequest, SecondRequest, ThirdRequest, FourthRequest, FifthRequest, SixthRequest and SeventhRequest.
 use Prim.Native.Nat.{ℕ, _+_, _*_, _/_, _%_, _^_, _≤_, _<_}
 use mathlib.Core.Path.{_≡_}
 use mathlib.Core.Bool.{true, false}
-use mathlib.Core.Logic.{_↔_, _⊎_}
+use mathlib.Core.Logic.{_↔_, _⊎_, _≢_}
 use mathlib.Core.Option.{Option}
 use mathlib.Core.List.{List, [], _∷_, _++_, map}
 use lib.Dec.{leb}
@@ -14,8 +14,8 @@ use lib.Bits.{bitXor}
 use Rattle.le.specs.Bytes.{littleEndian, part, Bytes}
 use Rattle.refusal.specs.declared.Refusal.{Refusal}
 use Rattle.refusal.specs.declared.Fault.the-variants.{Encoding, KeyRange, PageOffset, BlockOffset}
-use Rattle.refusal.specs.declared.Verdict.the-variants.{Refused}
-use Rattle.refusal.specs.Order.{_at_, atEntry, Rule, rule, AllHold, FirstFault}
+use Rattle.refusal.specs.declared.Verdict.the-variants.{Accepted, Refused}
+use Rattle.refusal.specs.Order.{_at_, atEntry, Rule, rule, inOrder, after, AllHold, FirstFault}
 use Rattle.keys.specs.declared.Sought.the-variants.{Equal, AtLeast}
 use Rattle.keys.specs.Plain.{Ascending, Missing, Distinct}
 use Rattle.keys.specs.Records.{cleared}
@@ -25,37 +25,45 @@ use Rattle.search.specs.Answer as search
 use Rattle.remainder.specs.Remainder.{bits, tableEntry}
 use Rattle.coding.specs.Coding.{cyclic, word}
 use Rattle.coding.specs.Table.{R, I}
+use Rattle.edition.specs.declared.Edition.{Edition}
+use Rattle.edition.specs.Editions.{nbt64, bbt64, edition64, bbt32, edition32}
+use Rattle.edition.specs.Fair.{FairEdition}
 use Rattle.header.specs.declared.HeaderAnswer.the-variants.{Says}
-use Rattle.header.specs.Header.{lengthFits, statedEnd, headerRules, says, fileEnd}
+use Rattle.header.specs.declared.HeaderAnswer.the-variants as header
+use Rattle.header.specs.Header.{editionOf, nodesOf, blocksOf, lengthFits, versionOf, clientFits, magicFits, endPlace, statedEnd, headerRules, says, fileEnd}
+use Rattle.header.specs.Former.{rules64, says64, end64}
 use Rattle.header.specs.End.{Above, LooksToEnd}
 use Rattle.header.specs.Sound.{HeaderSound}
-use Rattle.page.specs.declared.Layout.{Layout}
+use Rattle.edition.specs.declared.Layout.{Layout}
 use Rattle.page.specs.declared.Link.{Link}
-use Rattle.page.specs.Layout.{nbt, bbt, asGiven, compared}
+use Rattle.page.specs.Layout.{asGiven, compared}
 use Rattle.page.specs.Page.{numberIn, keyIn, pageFits}
 use Rattle.page.specs.KeyFaults.{KeyFaultsTold}
 use Rattle.tree.specs.declared.Listed.{Listed}
 use Rattle.tree.specs.declared.FoundNode.{FoundNode}
 use Rattle.tree.specs.declared.FoundNode.the-variants as node
 use Rattle.tree.specs.declared.FoundBlock.the-variants as block
-use Rattle.tree.specs.Tree.{root, rootLevel, treeRules, scan, allRoutes}
+use Rattle.tree.specs.Tree.{root, rootLevel, treeRules, treeFits, scan, allRoutes}
 use Rattle.tree.specs.Lookup.{path, searchRules, pagesRead}
-use Rattle.tree.specs.Answers.{shown, asNode, asBlock}
+use Rattle.tree.specs.Answers.{shown, asNode, nodeOf, asBlock, blockOf, nextNodeOf, nextBlockOf}
 use Rattle.tree.specs.Sound.{TreeSound}
 use Rattle.tree.specs.KeyFaults.{OfKeys, KeyFault}
-use Rattle.tree.specs.Demand3.{AgreeOnPath, AgreeOnRead}
-use Rattle.tree.specs.Listing.{TreeLists}
+use Rattle.tree.specs.Demand3.{Demand3, AgreeOnPath, AgreeOnRead}
+use Rattle.tree.specs.Listing.{Listing, TreeLists}
 use Rattle.laws.specs.Front.{fronted}
-use Rattle.nodelist.specs.Places.{nodeWords, listRules}
-use Rattle.block.specs.declared.Trailer.{Trailer}
-use Rattle.block.specs.Block.{trailer64, roomFor, blockFits, blockBytes}
-use Rattle.block.specs.Sound.{BlockSound}
+use Rattle.nodelist.specs.Places.{nodeWords, listRules, areaOf}
+use Rattle.edition.specs.declared.Trailer.{Trailer}
+use Rattle.block.specs.declared.Checked.the-variants.{Block}
+use Rattle.block.specs.Block.{roomFor, blockFits, checkedBlock, testOf, blockBytes, readOf, filledOf}
+use Rattle.block.specs.Sound.{BlockSound, ListedSound}
 use Rattle.block.specs.Tried.{testRules, readRules}
+use Rattle.node.specs.Content.{bytes, nodeContent, mostData, answerTo, filledBy}
 use Rattle.node.specs.Named.{Named}
 use Rattle.node.specs.Tried.{dataRules}
 use Rattle.heap.specs.Shape.{Heap, shapeRules}
 use Rattle.heap.specs.Items.{Numbered, itemRules, itemStart, itemLength, itemPart}
 use Rattle.heaptree.specs.declared.Branch.{Branch}
+use Rattle.heaptree.specs.declared.HeapTree.{HeapTree}
 use Rattle.heaptree.specs.Branches.{branchRules}
 use Rattle.heaptree.specs.Sound.{BranchSound}
 use Rattle.property.specs.Context.{properties, Context, contextRules}
@@ -69,14 +77,14 @@ use Rattle.table.specs.declared.TableAnswer.the-variants as table
 use Rattle.table.specs.declared.ColumnAnswer.the-variants as column
 use Rattle.table.specs.Context.{tableRecord, tableRules, TableSound}
 use Rattle.table.specs.Says.{tableIn}
-use Rattle.table.specs.RowIndex.{rowRules, rowFrom, IndexSound, rowId, rowRecords}
+use Rattle.table.specs.RowIndex.{rowIndex, rowIndex32, rowId, rowFrom, rowRules, IndexSound, rowRecords}
 use Rattle.cells.specs.declared.Cell.{Cell}
 use Rattle.cells.specs.Rows.{Held, rowsNamed, rowBytes, rowsRules, rowCount, rowAt}
 use Rattle.cells.specs.Cells.{cellAt, cellIn}
 use Rattle.cells.specs.Tried.{cellRules}
 use Rattle.rowcells.specs.RowCells.{cellWords, readRowRules}
 use Rattle.pst.specs.Meaning.{Meaning, answered, absent, refused, refuses, refusalMeans, verdictMeans, headerMeans, nodeMeans, blockMeans, sizedMeans, dataMeans, spanMeans, propertyMeans, tableMeans, columnMeans, countMeans, cellMeans, rowMeans, cellsMeans}
-use Rattle.pst.specs.Outcomes.{headerOutcome, nodesOutcome, blocksOutcome, nodeOutcome, listOutcome, listArea, blockOutcome, nextNodeOutcome, nextBlockOutcome, testOutcome, readOutcome, readBuffer, dataOutcome, dataBuffer, codeOutcome, encodeBuffer, decodeBuffer, heapOutcome, testItemOutcome, itemOutcome, spanOutcome, propertyOutcome, tableOutcome, columnOutcome, countOutcome, cellOutcome, rowOutcome, readRowOutcome, readRowArea, checksumOutcome}
+use Rattle.pst.specs.Outcomes.{headerOutcome, nodesOutcome, blocksOutcome, nodeOutcome, listOutcome, listArea, blockOutcome, nextNodeOutcome, nextBlockOutcome, testOutcome, readOutcome, readBuffer, dataOutcome, dataBuffer, codeOutcome, encodeBuffer, decodeBuffer, heapOutcome, testItemOutcome, itemOutcome, spanOutcome, propertyOutcome, tableOutcome, columnOutcome, countOutcome, cellOutcome, rowOutcome, row32Outcome, readRowOutcome, readRowArea, checksumOutcome, room32Outcome}
 
 -- Demand 1 of one call: its answers, by what they mean; the rules that it tries, in their order; its outcome
 pub record Told {A : Type 0} (means : A → Meaning) (rules : List Rule) (outcome : Meaning) : Type 0 where
@@ -95,16 +103,16 @@ methodRules method = rule (leb method 2) (Encoding at 0) ∷ []
 
 pub record FirstDemand : Type 0 where
   pub header : (image : List ℕ) → Told headerMeans (headerRules image) (headerOutcome image)
-  pub check-nodes : (image : List ℕ) → Told verdictMeans (treeRules nbt image) (nodesOutcome image)
-  pub check-blocks : (image : List ℕ) → Told verdictMeans (treeRules bbt image) (blocksOutcome image)
-  pub find-node : (image : List ℕ) (node : ℕ) → Told nodeMeans (searchRules Equal nbt image node) (nodeOutcome image node)
+  pub check-nodes : (image : List ℕ) → Told verdictMeans (treeRules (nodesOf image) image) (nodesOutcome image)
+  pub check-blocks : (image : List ℕ) → Told verdictMeans (treeRules (blocksOf image) image) (blocksOutcome image)
+  pub find-node : (image : List ℕ) (node : ℕ) → Told nodeMeans (searchRules Equal (nodesOf image) image node) (nodeOutcome image node)
   pub find-nodes : (nodes area : List ℕ) → Told verdictMeans (listRules (length nodes) (length area)) (listOutcome nodes area)
-  pub find-block : (image : List ℕ) (block : ℕ) → Told blockMeans (searchRules Equal bbt image block) (blockOutcome image block)
-  pub next-node : (image : List ℕ) (from : ℕ) → Told nodeMeans (searchRules AtLeast nbt image from) (nextNodeOutcome image from)
-  pub next-block : (image : List ℕ) (from : ℕ) → Told blockMeans (searchRules AtLeast bbt image from) (nextBlockOutcome image from)
-  pub test-block : (image : List ℕ) (block : ℕ) → Told sizedMeans (testRules image block) (testOutcome image block)
-  pub read-block : (image : List ℕ) (block : ℕ) (out : List ℕ) → Told sizedMeans (readRules image block (length out)) (readOutcome image block out)
-  pub read-node : (image : List ℕ) (node : ℕ) (out : List ℕ) → Told dataMeans (dataRules image node (length out)) (dataOutcome image node out)
+  pub find-block : (image : List ℕ) (block : ℕ) → Told blockMeans (searchRules Equal (blocksOf image) image block) (blockOutcome image block)
+  pub next-node : (image : List ℕ) (from : ℕ) → Told nodeMeans (searchRules AtLeast (nodesOf image) image from) (nextNodeOutcome image from)
+  pub next-block : (image : List ℕ) (from : ℕ) → Told blockMeans (searchRules AtLeast (blocksOf image) image from) (nextBlockOutcome image from)
+  pub test-block : (image : List ℕ) (block : ℕ) → Told sizedMeans (testRules (editionOf image) image block) (testOutcome image block)
+  pub read-block : (image : List ℕ) (block : ℕ) (out : List ℕ) → Told sizedMeans (readRules (editionOf image) image block (length out)) (readOutcome image block out)
+  pub read-node : (image : List ℕ) (node : ℕ) (out : List ℕ) → Told dataMeans (dataRules (editionOf image) image node (length out)) (dataOutcome image node out)
   pub code : (method : ℕ) → Told verdictMeans (methodRules method) (codeOutcome method)
   pub test-heap : (block : List ℕ) → Told verdictMeans (shapeRules block) (heapOutcome block)
   pub test-item : (block : List ℕ) (item : ℕ) → Told verdictMeans (itemRules block item) (testItemOutcome block item)
@@ -114,7 +122,8 @@ pub record FirstDemand : Type 0 where
   pub column : (block : List ℕ) (index : ℕ) → Told columnMeans (tableRules block) (columnOutcome block index)
   pub count-rows : (block rows : List ℕ) → Told countMeans (rowsRules block rows) (countOutcome block rows)
   pub cell : (block rows : List ℕ) (row tag : ℕ) → Told cellMeans (cellRules block rows row tag) (cellOutcome block rows row tag)
-  pub find-row : (block : List ℕ) (id : ℕ) → Told rowMeans (rowRules block id) (rowOutcome block id)
+  pub find-row : (block : List ℕ) (id : ℕ) → Told rowMeans (rowRules rowIndex block id) (rowOutcome block id)
+  pub find-row32 : (block : List ℕ) (id : ℕ) → Told rowMeans (rowRules rowIndex32 block id) (row32Outcome block id)
   pub read-row : (block rows : List ℕ) (row : ℕ) (area : List ℕ) → Told cellsMeans (readRowRules block rows row (length area)) (readRowOutcome block rows row area)
   pub find-nodes-leaves : (image nodes area : List ℕ) → Untouched (listOutcome nodes area) area (listArea image nodes area)
   pub read-block-leaves : (image : List ℕ) (block : ℕ) (out : List ℕ) → Untouched (readOutcome image block out) out (readBuffer image block out)
@@ -127,7 +136,7 @@ pub record FirstDemand : Type 0 where
 pub record SoundBlock (image : List ℕ) (number : ℕ) (listed : Listed) : Type 0 where
   pub pages : ℕ
   pub found : blockOutcome image number ≡ blockMeans (block.Found listed pages)
-  pub sound : BlockSound trailer64 image listed
+  pub sound : BlockSound ((editionOf image) .trailer) image listed
 
 -- a call on a block that answers its size
 pub record BlockOfSize (image : List ℕ) (number size : ℕ) : Type 0 where
@@ -138,15 +147,15 @@ pub record BlockOfSize (image : List ℕ) (number size : ℕ) : Type 0 where
 -- the bytes of exactly the blocks that a node names, and room for them
 pub record DataOfSize (image : List ℕ) (node space size : ℕ) : Type 0 where
   pub bytes : List ℕ
-  pub named : Named image node bytes
+  pub named : Named (editionOf image) image node bytes
   pub long : length bytes ≡ size
   pub fits : size ≤ space
 
 pub record SecondDemand : Type 0 where
   -- header, pages and both trees are accepted exactly when the rules hold, and the header says what stands in it
   pub header : (image : List ℕ) → (headerOutcome image ≡ headerMeans (Says (says image))) ↔ HeaderSound image
-  pub node-tree : (image : List ℕ) → (nodesOutcome image ≡ answered []) ↔ TreeSound nbt image
-  pub block-tree : (image : List ℕ) → (blocksOutcome image ≡ answered []) ↔ TreeSound bbt image
+  pub node-tree : (image : List ℕ) → (nodesOutcome image ≡ answered []) ↔ TreeSound (nodesOf image) image
+  pub block-tree : (image : List ℕ) → (blocksOutcome image ≡ answered []) ↔ TreeSound (blocksOf image) image
   -- a block is accepted exactly when it is listed and its rules hold
   pub block-tested : (image : List ℕ) (block size : ℕ) → (testOutcome image block ≡ answered (size ∷ [])) ↔ BlockOfSize image block size
   -- what is read is its bytes, decoded unless it is internal, at the front of the buffer
@@ -155,8 +164,8 @@ pub record SecondDemand : Type 0 where
       → readBuffer image block out ≡ fronted (blockBytes image listed) out
   -- a node's data is answered exactly when it is named by the rules, with room for it; it stands at the front of the buffer; and there is a most of it
   pub data-read : (image : List ℕ) (node size : ℕ) (out : List ℕ) → (dataOutcome image node out ≡ answered (size ∷ [])) ↔ DataOfSize image node (length out) size
-  pub data-bytes : (image : List ℕ) (node : ℕ) (out bytes : List ℕ) → Named image node bytes → length bytes ≤ length out → dataBuffer image node out ≡ fronted bytes out
-  pub data-most : (image : List ℕ) (node size : ℕ) (out : List ℕ) → dataOutcome image node out ≡ answered (size ∷ []) → size ≤ 8347696
+  pub data-bytes : (image : List ℕ) (node : ℕ) (out bytes : List ℕ) → Named (editionOf image) image node bytes → length bytes ≤ length out → dataBuffer image node out ≡ fronted bytes out
+  pub data-most : (image : List ℕ) (node size : ℕ) (out : List ℕ) → dataOutcome image node out ≡ answered (size ∷ []) → size ≤ mostData (editionOf image)
   -- heaps and items
   pub heap : (block : List ℕ) → (heapOutcome block ≡ answered []) ↔ Heap block
   pub item-tested : (block : List ℕ) (item : ℕ) → (testItemOutcome block item ≡ answered []) ↔ (Heap block × Numbered block item)
@@ -175,12 +184,12 @@ pub record SecondDemand : Type 0 where
   pub decoded-encoded : (method block : ℕ) (bytes : List ℕ) → Bytes bytes → decodeBuffer method block (encodeBuffer method block bytes) ≡ bytes
   pub encoded-decoded : (method block : ℕ) (bytes : List ℕ) → Bytes bytes → encodeBuffer method block (decodeBuffer method block bytes) ≡ bytes
 
--- what the calls of each tree say of an answer
-abbrev pub nodeSays : Answer (List ℕ) → Meaning
-nodeSays a = nodeMeans (asNode (shown nbt a))
+-- what the calls of each tree say of an answer, by the tree's layout
+abbrev pub nodeSays : Layout → Answer (List ℕ) → Meaning
+nodeSays L a = nodeMeans (asNode (shown L a))
 
-abbrev pub blockSays : Answer (List ℕ) → Meaning
-blockSays a = blockMeans (asBlock (shown bbt a))
+abbrev pub blockSays : Layout → Answer (List ℕ) → Meaning
+blockSays L a = blockMeans (asBlock (shown L a))
 
 -- Demand 3 of the lookups of one tree, in an image whose whole-tree check accepts
 pub record Lookups (L : Layout) (says : Answer (List ℕ) → Meaning) (find : ℕ → Meaning) (image : List ℕ) : Type 0 where
@@ -194,21 +203,21 @@ pub record Lookups (L : Layout) (says : Answer (List ℕ) → Meaning) (find : �
   -- no page offset is reached by two routes
   pub one-route : Distinct (allRoutes L image)
 
--- Demand 3 of the lookups of one tree, in any image at all
-pub record Paths (L : Layout) (says : Answer (List ℕ) → Meaning) (find : List ℕ → ℕ → Meaning) : Type 0 where
+-- Demand 3 of the lookups of one tree, in any image at all; L says which layout the tree of an image has
+pub record Paths (L : List ℕ → Layout) (says : Layout → Answer (List ℕ) → Meaning) (find : List ℕ → ℕ → Meaning) : Type 0 where
   -- the page count is the length of the key's path
-  pub found-count : (image : List ℕ) (key : ℕ) (entry : List ℕ) (pages : ℕ) → find image key ≡ says (found entry pages) → pages ≡ length (path L image key)
-  pub absent-count : (image : List ℕ) (key pages : ℕ) → find image key ≡ says (search.absent pages) → pages ≡ length (path L image key)
+  pub found-count : (image : List ℕ) (key : ℕ) (entry : List ℕ) (pages : ℕ) → find image key ≡ says (L image) (found entry pages) → pages ≡ length (path (L image) image key)
+  pub absent-count : (image : List ℕ) (key pages : ℕ) → find image key ≡ says (L image) (search.absent pages) → pages ≡ length (path (L image) image key)
   -- at most the root's level plus one
-  pub short : (image : List ℕ) (key : ℕ) → length (path L image key) ≤ rootLevel L image + 1
+  pub short : (image : List ℕ) (key : ℕ) → length (path (L image) image key) ≤ rootLevel (L image) image + 1
   -- nothing off the path changes the answer
-  pub off-path : (key : ℕ) (one other : List ℕ) → AgreeOnPath L key one other → find one key ≡ find other key
+  pub off-path : (key : ℕ) (one other : List ℕ) → AgreeOnPath (L one) key one other → find one key ≡ find other key
 
 pub record ThirdDemand : Type 0 where
-  pub nodes : (image : List ℕ) → nodesOutcome image ≡ answered [] → Lookups nbt nodeSays (nodeOutcome image) image
-  pub blocks : (image : List ℕ) → blocksOutcome image ≡ answered [] → Lookups bbt blockSays (blockOutcome image) image
-  pub node-paths : Paths nbt nodeSays nodeOutcome
-  pub block-paths : Paths bbt blockSays blockOutcome
+  pub nodes : (image : List ℕ) → nodesOutcome image ≡ answered [] → Lookups (nodesOf image) (nodeSays (nodesOf image)) (nodeOutcome image) image
+  pub blocks : (image : List ℕ) → blocksOutcome image ≡ answered [] → Lookups (blocksOf image) (blockSays (blocksOf image)) (blockOutcome image) image
+  pub node-paths : Paths nodesOf nodeSays nodeOutcome
+  pub block-paths : Paths blocksOf blockSays blockOutcome
 
 -- Request 1/13: two block numbers that differ only in bit 0 are answered alike, whatever the bytes; of a read, every byte of the buffer too
 pub record BitZeroReserved (image : List ℕ) (one other : ℕ) : Type 0 where
@@ -230,15 +239,15 @@ pub record SecondRequest : Type 0 where
   -- "The root's range is everything": 21 never of a root
   pub root-never : (L : Layout) (image : List ℕ) (i : ℕ) → pageFits L image (root L image) ≡ Refused (atEntry KeyRange ((root L image) .offset) i) → ⊥
   -- of every call that reads pages: the refusal is that of a page reached from the root of its tree
-  pub check-nodes : (image : List ℕ) → KeysTold (KeyFault nbt image) (nodesOutcome image)
-  pub check-blocks : (image : List ℕ) → KeysTold (KeyFault bbt image) (blocksOutcome image)
-  pub find-node : (image : List ℕ) (node : ℕ) → KeysTold (KeyFault nbt image) (nodeOutcome image node)
-  pub find-block : (image : List ℕ) (block : ℕ) → KeysTold (KeyFault bbt image) (blockOutcome image block)
-  pub next-node : (image : List ℕ) (from : ℕ) → KeysTold (KeyFault nbt image) (nextNodeOutcome image from)
-  pub next-block : (image : List ℕ) (from : ℕ) → KeysTold (KeyFault bbt image) (nextBlockOutcome image from)
-  pub test-block : (image : List ℕ) (block : ℕ) → KeysTold (KeyFault bbt image) (testOutcome image block)
-  pub read-block : (image : List ℕ) (block : ℕ) (out : List ℕ) → KeysTold (KeyFault bbt image) (readOutcome image block out)
-  pub read-node : (image : List ℕ) (node : ℕ) (out : List ℕ) → KeysTold (λ r. KeyFault nbt image r ⊎ KeyFault bbt image r) (dataOutcome image node out)
+  pub check-nodes : (image : List ℕ) → KeysTold (KeyFault (nodesOf image) image) (nodesOutcome image)
+  pub check-blocks : (image : List ℕ) → KeysTold (KeyFault (blocksOf image) image) (blocksOutcome image)
+  pub find-node : (image : List ℕ) (node : ℕ) → KeysTold (KeyFault (nodesOf image) image) (nodeOutcome image node)
+  pub find-block : (image : List ℕ) (block : ℕ) → KeysTold (KeyFault (blocksOf image) image) (blockOutcome image block)
+  pub next-node : (image : List ℕ) (from : ℕ) → KeysTold (KeyFault (nodesOf image) image) (nextNodeOutcome image from)
+  pub next-block : (image : List ℕ) (from : ℕ) → KeysTold (KeyFault (blocksOf image) image) (nextBlockOutcome image from)
+  pub test-block : (image : List ℕ) (block : ℕ) → KeysTold (KeyFault (blocksOf image) image) (testOutcome image block)
+  pub read-block : (image : List ℕ) (block : ℕ) (out : List ℕ) → KeysTold (KeyFault (blocksOf image) image) (readOutcome image block out)
+  pub read-node : (image : List ℕ) (node : ℕ) (out : List ℕ) → KeysTold (λ r. KeyFault (nodesOf image) image r ⊎ KeyFault (blocksOf image) image r) (dataOutcome image node out)
 
 -- Request 3/13: a list of nodes in one call. The nine words of the i-th place of an area
 abbrev pub placeIn : List ℕ → ℕ → List ℕ
@@ -291,6 +300,15 @@ pub record RowThere (block rows : List ℕ) (row : ℕ) : Type 0 where
   pub held : Held block rows (rowsNamed block)
   pub there : row < rowCount (tableRecord block) (rowBytes block rows)
 
+-- of a call that looks a row up by a row index
+pub record RowsFound (tree : HeapTree) (call : List ℕ → ℕ → Meaning) : Type 0 where
+  -- answered, or absent, exactly when each rule that is tried holds
+  pub row-answered : (block : List ℕ) (id : ℕ) → (refuses (call block id) ≡ false) ↔ AllHold (rowRules tree block id)
+  -- in a sound row index as the plain scan of all its leaf records
+  pub row-scanned : (block : List ℕ) (id : ℕ) → IndexSound tree block → call block id ≡ rowMeans (rowFrom tree (answer (withKey (rowId tree) id (rowRecords tree block)) 0))
+  pub row-ascending : (block : List ℕ) → IndexSound tree block → Ascending (map (rowId tree) (rowRecords tree block))
+  pub row-absent-iff : (block : List ℕ) (id : ℕ) → IndexSound tree block → (call block id ≡ absent []) ↔ Missing id (map (rowId tree) (rowRecords tree block))
+
 pub record FifthRequest : Type 0 where
   -- a table is accepted exactly when each rule holds, of each column and of any two, and what is handed out stands in its record
   pub accepted : (block : List ℕ) → (tableOutcome block ≡ tableMeans (table.Says (tableIn (tableRecord block)))) ↔ TableSound block
@@ -312,11 +330,9 @@ pub record FifthRequest : Type 0 where
       → cellOutcome block one row tag ≡ cellOutcome block other row tag
   pub in-any-row : (block table one other : List ℕ) (row tag : ℕ) → length one ≡ length other → rowAt table one row ≡ rowAt table other row
       → cellIn block table one row tag ≡ cellIn block table other row tag
-  -- the row index: answered, or absent, exactly when each rule that is tried holds; in a sound one as the plain scan of all its leaf records
-  pub row-answered : (block : List ℕ) (id : ℕ) → (refuses (rowOutcome block id) ≡ false) ↔ AllHold (rowRules block id)
-  pub row-scanned : (block : List ℕ) (id : ℕ) → IndexSound block → rowOutcome block id ≡ rowMeans (rowFrom (answer (withKey rowId id (rowRecords block)) 0))
-  pub row-ascending : (block : List ℕ) → IndexSound block → Ascending (map rowId (rowRecords block))
-  pub row-absent-iff : (block : List ℕ) (id : ℕ) → IndexSound block → (rowOutcome block id ≡ absent []) ↔ Missing id (map rowId (rowRecords block))
+  -- the row index, and that of a 32-bit file's table
+  pub row-index : RowsFound rowIndex rowOutcome
+  pub row-index32 : RowsFound rowIndex32 row32Outcome
   -- all cells of a row in one call: as many as there are columns; each place has the words of what the call for that cell answers, and of no other answer; what lies behind stays, and all where the row is absent
   pub cells-counted : (block rows : List ℕ) (row n : ℕ) (area : List ℕ) → readRowOutcome block rows row area ≡ answered (n ∷ []) → n ≡ columnCount (tableRecord block)
   pub cell-places : (block rows : List ℕ) (row n : ℕ) (area : List ℕ) (i : ℕ) (given : Cell) → readRowOutcome block rows row area ≡ answered (n ∷ []) → i < n
@@ -333,8 +349,8 @@ pub record EndOfFile (call : List ℕ → Meaning) : Type 0 where
   pub header-first : (image : List ℕ) (r : Refusal) → headerOutcome image ≡ refusalMeans r → call image ≡ refusalMeans r
 
 pub record SixthRequest : Type 0 where
-  -- "A header number above the image length is refused with 1 and place 184, after the encoding test": exactly when all that is tested before holds
-  pub above : (image : List ℕ) → (headerOutcome image ≡ refused 1 184 0) ↔ Above image
+  -- "A header number above the image length is refused with 1 and place 184, after the encoding test": exactly when all that is tested before holds; 7/13: "four bytes at 168, its place too"
+  pub above : (image : List ℕ) → (headerOutcome image ≡ refused 1 (endPlace image) 0) ↔ Above image
   -- a length outside its bounds is refused with 1 and place 0
   pub out-of-bounds : (image : List ℕ) → lengthFits image ≡ false → headerOutcome image ≡ refused 1 0 0
   -- "pages and blocks must end at or before both it and the image's end, else 6 or 13", over any layout and any trailer
@@ -357,6 +373,67 @@ pub record SixthRequest : Type 0 where
   pub read-block-buffer : (block : ℕ) (out : List ℕ) → LooksToEnd (λ image. readBuffer image block out)
   pub read-node-buffer : (node : ℕ) (out : List ℕ) → LooksToEnd (λ image. dataBuffer image node out)
 
+-- 7/13, "Older 32-bit files": "What demands 2 and 3 say of trees, blocks and lookups is proved once over the two layouts, with the field sizes as parameters", of any fair edition
+pub record InEdition (E : Edition) : Type 0 where
+  -- a tree is accepted exactly when its rules hold; where it is, the lookup answers as the plain scan does, and the listing too
+  pub node-tree : (image : List ℕ) → (treeFits (E .nodes) image ≡ Accepted) ↔ TreeSound (E .nodes) image
+  pub block-tree : (image : List ℕ) → (treeFits (E .blocks) image ≡ Accepted) ↔ TreeSound (E .blocks) image
+  pub node-lookups : (image : List ℕ) → treeFits (E .nodes) image ≡ Accepted → Demand3 (E .nodes) image
+  pub block-lookups : (image : List ℕ) → treeFits (E .blocks) image ≡ Accepted → Demand3 (E .blocks) image
+  pub node-listings : (image : List ℕ) → treeFits (E .nodes) image ≡ Accepted → Listing (E .nodes) image
+  pub block-listings : (image : List ℕ) → treeFits (E .blocks) image ≡ Accepted → Listing (E .blocks) image
+  -- a block passes its tests exactly when it is listed and its rules hold
+  pub block : (image : List ℕ) (number : ℕ) (listed : Listed) → (checkedBlock E image number ≡ Block listed) ↔ ListedSound E image number listed
+  -- a node's data is the byte string s exactly when its blocks, as named, hand it out; and there is a most of it
+  pub node-data : (image : List ℕ) (node : ℕ) (s : List ℕ) → (nodeContent E image node ≡ bytes s) ↔ Named E image node s
+  pub node-most : (image : List ℕ) (node : ℕ) (s : List ℕ) → nodeContent E image node ≡ bytes s → length s ≤ mostData E
+
+-- "64-bit files answer as before": the header's rules, what it says and where the file ends have the former numbers, and each call goes by the layouts and the trailer of the 64-bit edition
+pub record AsBefore (image : List ℕ) : Type 0 where
+  pub rules : headerRules image ≡ rules64 image
+  pub header-says : says image ≡ says64 image
+  pub end : fileEnd image ≡ end64 image
+  pub header : headerOutcome image ≡ headerMeans (after header.Refused (inOrder (rules64 image)) (Says (says64 image)))
+  pub check-nodes : nodesOutcome image ≡ verdictMeans (treeFits nbt64 image)
+  pub check-blocks : blocksOutcome image ≡ verdictMeans (treeFits bbt64 image)
+  pub find-node : (node : ℕ) → nodeOutcome image node ≡ nodeMeans (nodeOf nbt64 image node)
+  pub find-block : (block : ℕ) → blockOutcome image block ≡ blockMeans (blockOf bbt64 image block)
+  pub next-node : (from : ℕ) → nextNodeOutcome image from ≡ nodeMeans (nextNodeOf nbt64 image from)
+  pub next-block : (from : ℕ) → nextBlockOutcome image from ≡ blockMeans (nextBlockOf bbt64 image from)
+  pub find-nodes-area : (nodes area : List ℕ) → listArea image nodes area ≡ areaOf nbt64 image nodes area
+  pub test-block : (block : ℕ) → testOutcome image block ≡ sizedMeans (testOf edition64 image block)
+  pub read-block : (block : ℕ) (out : List ℕ) → readOutcome image block out ≡ sizedMeans (readOf edition64 image block (length out))
+  pub read-block-buffer : (block : ℕ) (out : List ℕ) → readBuffer image block out ≡ filledOf edition64 image block out
+  pub read-node : (node : ℕ) (out : List ℕ) → dataOutcome image node out ≡ dataMeans (answerTo (nodeContent edition64 image node) (length out))
+  pub read-node-buffer : (node : ℕ) (out : List ℕ) → dataBuffer image node out ≡ filledBy (nodeContent edition64 image node) out
+
+-- an image of one of the two versions
+abbrev pub OlderVersion : List ℕ → Type 0
+OlderVersion image = (versionOf image ≡ 14) ⊎ (versionOf image ≡ 15)
+
+pub record SeventhRequest : Type 0 where
+  -- the edition goes by the version, and `header` hands it out as 64 or 32
+  pub by-version : (image : List ℕ) → (editionOf image ≡ edition32) ↔ OlderVersion image
+  pub one-of-two : (image : List ℕ) → (editionOf image ≡ edition64) ⊎ (editionOf image ≡ edition32)
+  pub bits : (edition64 .bits ≡ 64) × (edition32 .bits ≡ 32)
+  -- "Refusal 3 is now for any other version", where the length and the marks before it are right
+  pub other-version : (image : List ℕ) → lengthFits image ≡ true → magicFits image ≡ true → clientFits image ≡ true
+      → (headerOutcome image ≡ refused 3 10 0) ↔ ((versionOf image ≢ 23) × (versionOf image ≢ 14) × (versionOf image ≢ 15))
+  -- demands 2 and 3, of any fair edition, and so of the two
+  pub any-edition : (E : Edition) → FairEdition E → InEdition E
+  pub fair-64 : FairEdition edition64
+  pub fair-32 : FairEdition edition32
+  -- "node data up to 16,711,740 bytes"
+  pub most : (mostData edition64 ≡ 8347696) × (mostData edition32 ≡ 16711740)
+  -- "64-bit files answer as before": whatever is of neither version does, a file of version 23 too
+  pub as-before : (image : List ℕ) → (OlderVersion image → ⊥) → AsBefore image
+  pub version-23 : (image : List ℕ) → versionOf image ≡ 23 → OlderVersion image → ⊥
+  -- a block number of 2^32 or more is compared as a number: where the block tree of a 32-bit file is accepted it is absent
+  pub large-absent : (image : List ℕ) (number : ℕ) → Bytes image → OlderVersion image → blocksOutcome image ≡ answered [] → 2 ^ 32 ≤ number → number < 2 ^ 64
+      → blockOutcome image number ≡ absent (length (path bbt32 image number) ∷ [])
+  -- both sides of the lines of a room with a trailer of 12 bytes
+  pub rooms : (room32Outcome 1 ≡ 64) × (room32Outcome 52 ≡ 64) × (room32Outcome 53 ≡ 128) × (room32Outcome 8180 ≡ 8192)
+
 -- Beyond the demands: the listings of one tree. The entry or absent, with some count
 pub record FirstFrom (says : Answer (List ℕ) → Meaning) (outcome : Meaning) (entry : Option (List ℕ)) : Type 0 where
   pub pages : ℕ
@@ -367,15 +444,15 @@ pub record FirstValue (number : ℕ) (outcome : Meaning) : Type 0 where
   pub others : List ℕ
   pub is : outcome ≡ answered (number ∷ others)
 
-pub record Listings (L : Layout) (says : Answer (List ℕ) → Meaning) (check : List ℕ → Meaning) (next : List ℕ → ℕ → Meaning) : Type 0 where
+pub record Listings (L : List ℕ → Layout) (says : Layout → Answer (List ℕ) → Meaning) (check : List ℕ → Meaning) (next : List ℕ → ℕ → Meaning) : Type 0 where
   -- where the whole-tree check accepts: the first entry of the scan whose key is at least the number as given, and never a refusal; going from 0, each time one above the number found, lists exactly the scan, and ends
-  pub answers : (image : List ℕ) (from : ℕ) → check image ≡ answered [] → FirstFrom says (next image from) (fromKey (keyIn L) (asGiven L from) (scan L image))
+  pub answers : (image : List ℕ) (from : ℕ) → check image ≡ answered [] → FirstFrom (says (L image)) (next image from) (fromKey (keyIn (L image)) (asGiven (L image) from) (scan (L image) image))
   pub never-refused : (image : List ℕ) (from : ℕ) → check image ≡ answered [] → refuses (next image from) ≡ false
-  pub lists : (image : List ℕ) → Bytes image → check image ≡ answered [] → TreeLists L image 0 (scan L image)
+  pub lists : (image : List ℕ) → Bytes image → check image ≡ answered [] → TreeLists (L image) image 0 (scan (L image) image)
   -- the number of an entry found is the first value handed out
-  pub handed-out : (entry : List ℕ) (pages : ℕ) → FirstValue (numberIn L entry) (says (found entry pages))
+  pub handed-out : (image entry : List ℕ) (pages : ℕ) → FirstValue (numberIn (L image) entry) (says (L image) (found entry pages))
   -- in any image at all: the count is the number of pages read, at most twice the root's level plus one are read, and nothing else changes the answer
-  pub found-count : (image : List ℕ) (from : ℕ) (entry : List ℕ) (pages : ℕ) → next image from ≡ says (found entry pages) → pages ≡ length (pagesRead AtLeast L image from)
-  pub absent-count : (image : List ℕ) (from pages : ℕ) → next image from ≡ says (search.absent pages) → pages ≡ length (pagesRead AtLeast L image from)
-  pub few : (image : List ℕ) (from : ℕ) → length (pagesRead AtLeast L image from) ≤ 2 * rootLevel L image + 1
-  pub off-read : (from : ℕ) (one other : List ℕ) → AgreeOnRead AtLeast L from one other → next one from ≡ next other from
+  pub found-count : (image : List ℕ) (from : ℕ) (entry : List ℕ) (pages : ℕ) → next image from ≡ says (L image) (found entry pages) → pages ≡ length (pagesRead AtLeast (L image) image from)
+  pub absent-count : (image : List ℕ) (from pages : ℕ) → next image from ≡ says (L image) (search.absent pages) → pages ≡ length (pagesRead AtLeast (L image) image from)
+  pub few : (image : List ℕ) (from : ℕ) → length (pagesRead AtLeast (L image) image from) ≤ 2 * rootLevel (L image) image + 1
+  pub off-read : (from : ℕ) (one other : List ℕ) → AgreeOnRead AtLeast (L one) from one other → next one from ≡ next other from

@@ -61,7 +61,7 @@ verdictMeans (verdict.Refused r) = refusalMeans r
 -- method; number and offset of the NBT's root page, and of the BBT's; end-of-file number
 unfoldable pub headerMeans : HeaderAnswer → Meaning
 headerMeans (header.Says h) =
-    answered (h .method ∷ h .nodes .number ∷ h .nodes .offset ∷ h .blocks .number ∷ h .blocks .offset ∷ h .end ∷ [])
+    answered (h .method ∷ h .nodes .number ∷ h .nodes .offset ∷ h .blocks .number ∷ h .blocks .offset ∷ h .end ∷ h .edition ∷ [])
 headerMeans (header.Refused r) = refusalMeans r
 
 -- node, data block, subnode block, parent; pages

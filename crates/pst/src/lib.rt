@@ -15,7 +15,7 @@ use tree::FoundBlock;
 use tree::FoundNode;
 ghost use mathlib.Core.Path.{_≡_};
 ghost use Rattle.pst.specs.Meaning.{verdictMeans, headerMeans, nodeMeans, blockMeans, sizedMeans, dataMeans, spanMeans, propertyMeans, tableMeans, columnMeans, countMeans, cellMeans, rowMeans, cellsMeans};
-ghost use Rattle.pst.specs.Outcomes.{headerOutcome, nodesOutcome, blocksOutcome, nodeOutcome, listOutcome, listArea, blockOutcome, nextNodeOutcome, nextBlockOutcome, testOutcome, readOutcome, readBuffer, dataOutcome, dataBuffer, codeOutcome, encodeBuffer, decodeBuffer, heapOutcome, testItemOutcome, itemOutcome, spanOutcome, propertyOutcome, tableOutcome, columnOutcome, countOutcome, cellOutcome, rowOutcome, readRowOutcome, readRowArea, checksumOutcome, signatureOutcome, roomOutcome};
+ghost use Rattle.pst.specs.Outcomes.{headerOutcome, nodesOutcome, blocksOutcome, nodeOutcome, listOutcome, listArea, blockOutcome, nextNodeOutcome, nextBlockOutcome, testOutcome, readOutcome, readBuffer, dataOutcome, dataBuffer, codeOutcome, encodeBuffer, decodeBuffer, heapOutcome, testItemOutcome, itemOutcome, spanOutcome, propertyOutcome, tableOutcome, columnOutcome, countOutcome, cellOutcome, rowOutcome, row32Outcome, readRowOutcome, readRowArea, checksumOutcome, signatureOutcome, roomOutcome, room32Outcome};
 
 // What the header says.
 pub fn header(image: &[u8]) -> HeaderAnswer
@@ -28,21 +28,21 @@ pub fn header(image: &[u8]) -> HeaderAnswer
 pub fn check_nodes(image: &[u8]) -> Verdict
     ensures { λ r. ⌜ verdictMeans r ≡ nodesOutcome (now (image .entry)) ⌝ }
 {
-    tree::check_nodes(image)
+    tree::check_tree(image, header::nodes_of(image))
 }
 
 // The whole-tree check of the block tree.
 pub fn check_blocks(image: &[u8]) -> Verdict
     ensures { λ r. ⌜ verdictMeans r ≡ blocksOutcome (now (image .entry)) ⌝ }
 {
-    tree::check_blocks(image)
+    tree::check_tree(image, header::blocks_of(image))
 }
 
 // A node by the low four bytes of its number.
 pub fn find_node(image: &[u8], node: u64) -> FoundNode
     ensures { λ r. ⌜ nodeMeans r ≡ nodeOutcome (now (image .entry)) node ⌝ }
 {
-    tree::find_node(image, node)
+    tree::find_node(image, header::nodes_of(image), node)
 }
 
 // A list of at most 4,096 nodes, each as by `find_node`; of each answer the nine words go into its place.
@@ -50,35 +50,35 @@ pub fn find_nodes(image: &[u8], nodes: &[u64], places: &mut [u64]) -> Verdict
     ensures answer { λ r. ⌜ verdictMeans r ≡ listOutcome (now (nodes .entry)) (now (places .entry)) ⌝ }
     ensures area { λ _. ⌜ now (places .exit) ≡ listArea (now (image .entry)) (now (nodes .entry)) (now (places .entry)) ⌝ }
 {
-    nodelist::find_nodes(image, nodes, places)
+    nodelist::find_nodes(image, header::nodes_of(image), nodes, places)
 }
 
 // A block by its number.
 pub fn find_block(image: &[u8], block: u64) -> FoundBlock
     ensures { λ r. ⌜ blockMeans r ≡ blockOutcome (now (image .entry)) block ⌝ }
 {
-    tree::find_block(image, block)
+    tree::find_block(image, header::blocks_of(image), block)
 }
 
 // The first node whose number is at least `from`, by the low four bytes of both.
 pub fn next_node(image: &[u8], from: u64) -> FoundNode
     ensures { λ r. ⌜ nodeMeans r ≡ nextNodeOutcome (now (image .entry)) from ⌝ }
 {
-    tree::next_node(image, from)
+    tree::next_node(image, header::nodes_of(image), from)
 }
 
 // The first block whose number is at least `from`.
 pub fn next_block(image: &[u8], from: u64) -> FoundBlock
     ensures { λ r. ⌜ blockMeans r ≡ nextBlockOutcome (now (image .entry)) from ⌝ }
 {
-    tree::next_block(image, from)
+    tree::next_block(image, header::blocks_of(image), from)
 }
 
 // A block's size, after its tests.
 pub fn test_block(image: &[u8], block: u64) -> Sized
     ensures { λ r. ⌜ sizedMeans r ≡ testOutcome (now (image .entry)) block ⌝ }
 {
-    block::test_block(image, block)
+    block::test_block(image, header::edition_of(image), block)
 }
 
 // A block's bytes at the front of `out`, decoded unless the block is internal.
@@ -86,7 +86,7 @@ pub fn read_block(image: &[u8], block: u64, out: &mut [u8]) -> Sized
     ensures answer { λ r. ⌜ sizedMeans r ≡ readOutcome (now (image .entry)) block (now (out .entry)) ⌝ }
     ensures buffer { λ _. ⌜ now (out .exit) ≡ readBuffer (now (image .entry)) block (now (out .entry)) ⌝ }
 {
-    block::read_block(image, block, out)
+    block::read_block(image, header::edition_of(image), block, out)
 }
 
 // The data of a node at the front of `out`.
@@ -94,7 +94,7 @@ pub fn read_node(image: &[u8], node: u64, out: &mut [u8]) -> NodeRead
     ensures answer { λ r. ⌜ dataMeans r ≡ dataOutcome (now (image .entry)) node (now (out .entry)) ⌝ }
     ensures buffer { λ _. ⌜ now (out .exit) ≡ dataBuffer (now (image .entry)) node (now (out .entry)) ⌝ }
 {
-    node::read_node(image, node, out)
+    node::read_node(image, header::edition_of(image), node, out)
 }
 
 // Encodes the bytes in place.
@@ -183,6 +183,13 @@ pub fn find_row(block: &[u8], id: u32) -> FoundRow
     table::find_row(block, id)
 }
 
+// The same of a 32-bit file's table.
+pub fn find_row32(block: &[u8], id: u32) -> FoundRow
+    ensures { λ r. ⌜ rowMeans r ≡ row32Outcome (now (block .entry)) id ⌝ }
+{
+    table::find_row32(block, id)
+}
+
 // All cells of a row, each as by `cell`; of each answer the six words go into its place.
 pub fn read_row<'a>(block: &'a [u8], rows: &'a [u8], row: u32, places: &mut [u64]) -> RowRead
     ensures answer { λ r. ⌜ cellsMeans r ≡ readRowOutcome (now (block .entry)) (now (rows .entry)) row (now (places .entry)) ⌝ }
@@ -208,4 +215,11 @@ pub fn room(size: u32) -> u64
     ensures { λ r. ⌜ r ≡ roomOutcome size ⌝ }
 {
     block::room(size)
+}
+
+// The same in a 32-bit file.
+pub fn room32(size: u32) -> u64
+    ensures { λ r. ⌜ r ≡ room32Outcome size ⌝ }
+{
+    block::room32(size)
 }

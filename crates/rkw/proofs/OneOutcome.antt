@@ -49,6 +49,8 @@ use Rattle.rkw.proofs.rkw_cell.Reads as cell
 use Rattle.rkw.proofs.rkw_cell.Kinds as cell-kinds
 use Rattle.rkw.proofs.rkw_find_row.Reads as find-row
 use Rattle.rkw.proofs.rkw_find_row.Kinds as find-row-kinds
+use Rattle.rkw.proofs.rkw_find_row32.Reads as find-row32
+use Rattle.rkw.proofs.rkw_find_row32.Kinds as find-row32-kinds
 use Rattle.rkw.proofs.rkw_read_row.Reads as read-row
 use Rattle.rkw.proofs.rkw_read_row.Kinds as read-row-kinds
 use Rattle.rkw.proofs.rkw_checksum.Reads as checksum
@@ -57,6 +59,8 @@ use Rattle.rkw.proofs.rkw_signature.Reads as signature
 use Rattle.rkw.proofs.rkw_signature.Kinds as signature-kinds
 use Rattle.rkw.proofs.rkw_room.Reads as room
 use Rattle.rkw.proofs.rkw_room.Kinds as room-kinds
+use Rattle.rkw.proofs.rkw_room32.Reads as room32
+use Rattle.rkw.proofs.rkw_room32.Kinds as room32-kinds
 
 header-single : Single 1 header-kinds.ps header-kinds.r header.Post
 header-single κs a x y s t p q = p ∙ sym q
@@ -129,6 +133,9 @@ cell-single κs a x y s t p q = p ∙ sym q
 find-row-single : Single 1 find-row-kinds.ps find-row-kinds.r find-row.Post
 find-row-single κs a x y s t p q = p ∙ sym q
 
+find-row32-single : Single 1 find-row32-kinds.ps find-row32-kinds.r find-row32.Post
+find-row32-single κs a x y s t p q = p ∙ sym q
+
 read-row-single : (κs : Lfts 2) (a : Dens κs read-row-kinds.ps) (x y : resT read-row-kinds.r κs .Denot) (s t : AtExit (endedOf 2 read-row-kinds.ps read-row-kinds.r) κs)
     → read-row.Post κs a x s → read-row.Post κs a y t → (x ≡ y) × (now (s .1 .1 .1 .0) ≡ now (t .1 .1 .1 .0))
 read-row-single κs a x y s t p q = (p .0 ∙ sym (q .0), p .1 ∙ sym (q .1))
@@ -141,3 +148,6 @@ signature-single κs a x y s t p q = p ∙ sym q
 
 room-single : Single 0 room-kinds.ps room-kinds.r room.Post
 room-single κs a x y s t p q = p ∙ sym q
+
+room32-single : Single 0 room32-kinds.ps room32-kinds.r room32.Post
+room32-single κs a x y s t p q = p ∙ sym q

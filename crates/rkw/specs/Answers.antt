@@ -45,6 +45,7 @@ headerAnswer (header.Says h) =
       «blocks_number» = h .blocks .number;
       «blocks_offset» = h .blocks .offset;
       end = h .end;
+      edition = h .edition;
     }
 headerAnswer (header.Refused r) =
     record {
@@ -57,6 +58,7 @@ headerAnswer (header.Refused r) =
       «blocks_number» = 0;
       «blocks_offset» = 0;
       end = 0;
+      edition = 0;
     }
 
 -- no node: absent after so many pages, or refused

@@ -20,19 +20,18 @@ ghost use lib.ListN.{length};
 ghost use Rattle.refusal.specs.Number.{number};
 ghost use Rattle.crc.specs.Checksum.{checksum};
 ghost use Rattle.coding.specs.Coding.{methodFits, encoded, decoded};
-ghost use Rattle.header.specs.Header.{headerOf};
-ghost use Rattle.page.specs.Layout.{nbt, bbt};
+ghost use Rattle.header.specs.Header.{editionOf, nodesOf, blocksOf, headerOf};
 ghost use Rattle.page.specs.Page.{signature};
 ghost use Rattle.tree.specs.Tree.{treeFits};
 ghost use Rattle.tree.specs.Answers.{nodeOf, blockOf, nextNodeOf, nextBlockOf};
 ghost use Rattle.nodelist.specs.Places.{listFits, areaOf};
-ghost use Rattle.block.specs.Block.{room, testOf, readOf, filledOf};
+ghost use Rattle.block.specs.Block.{room, room32, testOf, readOf, filledOf};
 ghost use Rattle.node.specs.Content.{nodeContent, answerTo, filledBy};
 ghost use Rattle.heap.specs.Shape.{heapTest};
 ghost use Rattle.heap.specs.Items.{itemTest, itemSpan};
 ghost use Rattle.property.specs.Lookup.{property as propertyIn};
 ghost use Rattle.table.specs.Says.{tableOf, columnOf};
-ghost use Rattle.table.specs.RowIndex.{rowOf};
+ghost use Rattle.table.specs.RowIndex.{rowIndex, rowIndex32, rowOf};
 ghost use Rattle.cells.specs.Rows.{countOf};
 ghost use Rattle.cells.specs.Cells.{cellOf};
 ghost use Rattle.rowcells.specs.RowCells.{rowRead, rowArea};
@@ -58,6 +57,7 @@ pub struct RkwHeader {
     pub blocks_number: u64,
     pub blocks_offset: u64,
     pub end: u64,
+    pub edition: u64,
 }
 
 #[repr(C)]
@@ -230,6 +230,7 @@ fn header_answer(answer: HeaderAnswer) -> RkwHeader
             blocks_number: h.blocks.number,
             blocks_offset: h.blocks.offset,
             end: h.end,
+            edition: h.edition,
         },
         HeaderAnswer::Refused(r) => RkwHeader {
             refusal: number_in(r),
@@ -241,6 +242,7 @@ fn header_answer(answer: HeaderAnswer) -> RkwHeader
             blocks_number: 0,
             blocks_offset: 0,
             end: 0,
+            edition: 0,
         },
     }
 }
@@ -661,21 +663,21 @@ pub extern "C" fn rkw_header(image: &[u8]) -> RkwHeader
 
 #[no_mangle]
 pub extern "C" fn rkw_check_nodes(image: &[u8]) -> RkwVerdict
-    ensures { λ r. ⌜ r ≡ verdictAnswer (treeFits nbt (now (image .entry))) ⌝ }
+    ensures { λ r. ⌜ r ≡ verdictAnswer (treeFits (nodesOf (now (image .entry))) (now (image .entry))) ⌝ }
 {
     verdict_answer(pst::check_nodes(image))
 }
 
 #[no_mangle]
 pub extern "C" fn rkw_check_blocks(image: &[u8]) -> RkwVerdict
-    ensures { λ r. ⌜ r ≡ verdictAnswer (treeFits bbt (now (image .entry))) ⌝ }
+    ensures { λ r. ⌜ r ≡ verdictAnswer (treeFits (blocksOf (now (image .entry))) (now (image .entry))) ⌝ }
 {
     verdict_answer(pst::check_blocks(image))
 }
 
 #[no_mangle]
 pub extern "C" fn rkw_find_node(image: &[u8], node: u64) -> RkwNode
-    ensures { λ r. ⌜ r ≡ nodeAnswer (nodeOf (now (image .entry)) node) ⌝ }
+    ensures { λ r. ⌜ r ≡ nodeAnswer (nodeOf (nodesOf (now (image .entry))) (now (image .entry)) node) ⌝ }
 {
     node_answer(pst::find_node(image, node))
 }
@@ -683,51 +685,51 @@ pub extern "C" fn rkw_find_node(image: &[u8], node: u64) -> RkwNode
 #[no_mangle]
 pub extern "C" fn rkw_find_nodes(image: &[u8], nodes: &[u64], places: &mut [u64]) -> RkwVerdict
     ensures answer { λ r. ⌜ r ≡ verdictAnswer (listFits (length (now (nodes .entry))) (length (now (places .entry)))) ⌝ }
-    ensures area { λ _. ⌜ now (places .exit) ≡ areaOf (now (image .entry)) (now (nodes .entry)) (now (places .entry)) ⌝ }
+    ensures area { λ _. ⌜ now (places .exit) ≡ areaOf (nodesOf (now (image .entry))) (now (image .entry)) (now (nodes .entry)) (now (places .entry)) ⌝ }
 {
     verdict_answer(pst::find_nodes(image, nodes, places))
 }
 
 #[no_mangle]
 pub extern "C" fn rkw_find_block(image: &[u8], block: u64) -> RkwBlock
-    ensures { λ r. ⌜ r ≡ blockAnswer (blockOf (now (image .entry)) block) ⌝ }
+    ensures { λ r. ⌜ r ≡ blockAnswer (blockOf (blocksOf (now (image .entry))) (now (image .entry)) block) ⌝ }
 {
     block_answer(pst::find_block(image, block))
 }
 
 #[no_mangle]
 pub extern "C" fn rkw_next_node(image: &[u8], from: u64) -> RkwNode
-    ensures { λ r. ⌜ r ≡ nodeAnswer (nextNodeOf (now (image .entry)) from) ⌝ }
+    ensures { λ r. ⌜ r ≡ nodeAnswer (nextNodeOf (nodesOf (now (image .entry))) (now (image .entry)) from) ⌝ }
 {
     node_answer(pst::next_node(image, from))
 }
 
 #[no_mangle]
 pub extern "C" fn rkw_next_block(image: &[u8], from: u64) -> RkwBlock
-    ensures { λ r. ⌜ r ≡ blockAnswer (nextBlockOf (now (image .entry)) from) ⌝ }
+    ensures { λ r. ⌜ r ≡ blockAnswer (nextBlockOf (blocksOf (now (image .entry))) (now (image .entry)) from) ⌝ }
 {
     block_answer(pst::next_block(image, from))
 }
 
 #[no_mangle]
 pub extern "C" fn rkw_test_block(image: &[u8], block: u64) -> RkwSize
-    ensures { λ r. ⌜ r ≡ sizeAnswer (testOf (now (image .entry)) block) ⌝ }
+    ensures { λ r. ⌜ r ≡ sizeAnswer (testOf (editionOf (now (image .entry))) (now (image .entry)) block) ⌝ }
 {
     size_answer(pst::test_block(image, block))
 }
 
 #[no_mangle]
 pub extern "C" fn rkw_read_block(image: &[u8], block: u64, out: &mut [u8]) -> RkwLength
-    ensures answer { λ r. ⌜ r ≡ lengthAnswer (readOf (now (image .entry)) block (length (now (out .entry)))) ⌝ }
-    ensures buffer { λ _. ⌜ now (out .exit) ≡ filledOf (now (image .entry)) block (now (out .entry)) ⌝ }
+    ensures answer { λ r. ⌜ r ≡ lengthAnswer (readOf (editionOf (now (image .entry))) (now (image .entry)) block (length (now (out .entry)))) ⌝ }
+    ensures buffer { λ _. ⌜ now (out .exit) ≡ filledOf (editionOf (now (image .entry))) (now (image .entry)) block (now (out .entry)) ⌝ }
 {
     length_answer(pst::read_block(image, block, out))
 }
 
 #[no_mangle]
 pub extern "C" fn rkw_read_node(image: &[u8], node: u64, out: &mut [u8]) -> RkwData
-    ensures answer { λ r. ⌜ r ≡ dataAnswer (answerTo (nodeContent (now (image .entry)) node) (length (now (out .entry)))) ⌝ }
-    ensures buffer { λ _. ⌜ now (out .exit) ≡ filledBy (nodeContent (now (image .entry)) node) (now (out .entry)) ⌝ }
+    ensures answer { λ r. ⌜ r ≡ dataAnswer (answerTo (nodeContent (editionOf (now (image .entry))) (now (image .entry)) node) (length (now (out .entry)))) ⌝ }
+    ensures buffer { λ _. ⌜ now (out .exit) ≡ filledBy (nodeContent (editionOf (now (image .entry))) (now (image .entry)) node) (now (out .entry)) ⌝ }
 {
     data_answer(pst::read_node(image, node, out))
 }
@@ -806,9 +808,16 @@ pub extern "C" fn rkw_cell<'a>(block: &'a [u8], rows: &'a [u8], row: u32, tag: u
 
 #[no_mangle]
 pub extern "C" fn rkw_find_row(block: &[u8], id: u32) -> RkwRow
-    ensures { λ r. ⌜ r ≡ rowAnswer (rowOf (now (block .entry)) id) ⌝ }
+    ensures { λ r. ⌜ r ≡ rowAnswer (rowOf rowIndex (now (block .entry)) id) ⌝ }
 {
     row_answer(pst::find_row(block, id))
+}
+
+#[no_mangle]
+pub extern "C" fn rkw_find_row32(block: &[u8], id: u32) -> RkwRow
+    ensures { λ r. ⌜ r ≡ rowAnswer (rowOf rowIndex32 (now (block .entry)) id) ⌝ }
+{
+    row_answer(pst::find_row32(block, id))
 }
 
 #[no_mangle]
@@ -843,4 +852,11 @@ pub extern "C" fn rkw_room(size: u32) -> u64
     ensures { λ r. ⌜ r ≡ room size ⌝ }
 {
     pst::room(size)
+}
+
+#[no_mangle]
+pub extern "C" fn rkw_room32(size: u32) -> u64
+    ensures { λ r. ⌜ r ≡ room32 size ⌝ }
+{
+    pst::room32(size)
 }

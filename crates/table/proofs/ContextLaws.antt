@@ -109,6 +109,6 @@ module _ (block : List ℕ) where
   record-long s = omega (arith, s .shape .whole)
 
   -- and lies in the block
-  pub record-short : TableSound block → length (tableRecord block) ≤ 8176
+  pub record-short : TableSound block → length (tableRecord block) ≤ 8180
   unfolding tableRecord
   record-short s = let lies = item-lies block (s .heap) (userRoot block) (s .named) in omega (arith, lies .inside, lies .whole, s .heap .short)

@@ -16,6 +16,7 @@ use Rattle.keys.specs.Search.{withKey}
 use Rattle.keys.proofs.FoundLaws.{missing-exactly}
 use Rattle.search.specs.Answer.{Answer, found, absent, refused, answer}
 use Rattle.search.proofs.Tried.{verdictOf}
+use Rattle.heaptree.specs.declared.HeapTree.{HeapTree}
 use Rattle.heaptree.specs.Root.{rootRules}
 use Rattle.heaptree.specs.Lookup.{fromRoot, pathRules, byCase}
 use Rattle.heaptree.specs.Scan.{TreeAsScanned}
@@ -25,7 +26,7 @@ use Rattle.heaptree.proofs.TriedLaws.{path-tried}
 use Rattle.table.specs.declared.FoundRow.{FoundRow}
 use Rattle.table.specs.declared.FoundRow.the-variants.{Row, Absent, Refused}
 use Rattle.table.specs.Context.{tableRules}
-use Rattle.table.specs.RowIndex.{rowIndex, indexRoot, indexTest, rowRules, rowFrom, rowOf, IndexSound, rowId, rowRecords, RowScanHolds}
+use Rattle.table.specs.RowIndex.{rowId, rowFrom, indexRoot, indexTest, rowRules, rowOf, IndexSound, rowRecords, RowScanHolds}
 use Rattle.table.proofs.IndexLaws.{index-exactly, row-on}
 
 -- the refusal of an answer, if it is one
@@ -45,61 +46,62 @@ unfolding refusalIn after
 refusal-after verdict.Accepted f = refl
 refusal-after (verdict.Refused r) f = refl
 
-module _ (block : List ℕ) where
-  answer-tried : (a : Answer (List ℕ)) → verdictOf a ≡ refusalIn (rowFrom a)
+module _ (tree : HeapTree) where
+  answer-tried : (a : Answer (List ℕ)) → verdictOf a ≡ refusalIn (rowFrom tree a)
   unfolding verdictOf byCase refusalIn
   answer-tried (found entry n) = refl
   answer-tried (absent n) = refl
   answer-tried (refused r) = refl
 
-  row-tried : (id : ℕ) → inOrder (rowRules block id) ≡ refusalIn (rowOf block id)
-  unfolding rowRules rowOf indexTest
-  row-tried id =
-      let before = tableRules block ++ rootRules rowIndex block (indexRoot block) in
-      in-order-append before (pathRules rowIndex block (indexRoot block) id)
-      ∙ ap (λ (v : Verdict). inOrder before then v) (path-tried rowIndex block (indexRoot block) id ∙ answer-tried (fromRoot rowIndex block (indexRoot block) id))
-      ∙ sym (refusal-after (inOrder before) (rowFrom (fromRoot rowIndex block (indexRoot block) id)))
-
-  -- answered, or absent, exactly when each rule holds
-  pub row-answered-exactly : (id : ℕ) → (refusalIn (rowOf block id) ≡ verdict.Accepted) ↔ AllHold (rowRules block id)
-  row-answered-exactly id = (
-    (λ e. accepted-exactly (rowRules block id) .0 (row-tried id ∙ e)),
-    (λ h. sym (row-tried id) ∙ accepted-exactly (rowRules block id) .1 h),
-  )
-
-  -- refused exactly with the first fault
-  pub row-refused-exactly : (id : ℕ) (r : Refusal) → (rowOf block id ≡ Refused r) ↔ FirstFault (rowRules block id) r
-  unfolding refusalIn
-  row-refused-exactly id r = (
-    (λ e. refused-exactly (rowRules block id) r .0 (row-tried id ∙ ap refusalIn e)),
-    (λ f. refusal-is (rowOf block id) r (sym (row-tried id) ∙ refused-exactly (rowRules block id) r .1 f)),
-  )
-
   -- what a leaf record says is never that it is absent
   abbrev told : List ℕ → FoundRow
-  told entry = Row (field entry 4 4)
+  told entry = Row (field entry (tree .key) (tree .entry))
 
-  answer-there : (o : Option (List ℕ)) → rowFrom (answer o 0) ≡ Absent → o ≡ none
+  answer-there : (o : Option (List ℕ)) → rowFrom tree (answer o 0) ≡ Absent → o ≡ none
   answer-there none e = refl
   answer-there (some entry) e =
       let there = sym (case-some told Absent Refused entry 0) ∙ e in
       let clash : _≡_ {A = ℕ} 0 1 = cc in absurd (omega arith)
 
+module _ (tree : HeapTree) (block : List ℕ) where
+  row-tried : (id : ℕ) → inOrder (rowRules tree block id) ≡ refusalIn (rowOf tree block id)
+  unfolding rowRules rowOf indexTest
+  row-tried id =
+      let before = tableRules block ++ rootRules tree block (indexRoot block) in
+      in-order-append before (pathRules tree block (indexRoot block) id)
+      ∙ ap (λ (v : Verdict). inOrder before then v) (path-tried tree block (indexRoot block) id ∙ answer-tried tree (fromRoot tree block (indexRoot block) id))
+      ∙ sym (refusal-after (inOrder before) (rowFrom tree (fromRoot tree block (indexRoot block) id)))
+
+  -- answered, or absent, exactly when each rule holds
+  pub row-answered-exactly : (id : ℕ) → (refusalIn (rowOf tree block id) ≡ verdict.Accepted) ↔ AllHold (rowRules tree block id)
+  row-answered-exactly id = (
+    (λ e. accepted-exactly (rowRules tree block id) .0 (row-tried id ∙ e)),
+    (λ h. sym (row-tried id) ∙ accepted-exactly (rowRules tree block id) .1 h),
+  )
+
+  -- refused exactly with the first fault
+  pub row-refused-exactly : (id : ℕ) (r : Refusal) → (rowOf tree block id ≡ Refused r) ↔ FirstFault (rowRules tree block id) r
+  unfolding refusalIn
+  row-refused-exactly id r = (
+    (λ e. refused-exactly (rowRules tree block id) r .0 (row-tried id ∙ ap refusalIn e)),
+    (λ f. refusal-is (rowOf tree block id) r (sym (row-tried id) ∙ refused-exactly (rowRules tree block id) r .1 f)),
+  )
+
 -- the tree's theorem, read as rows
-module _ (block : List ℕ) (sound : IndexSound block) where
-  tree : TreeAsScanned rowIndex block (indexRoot block)
-  tree = tree-holds rowIndex block (indexRoot block) (sound .tree)
+module _ (tree : HeapTree) (block : List ℕ) (sound : IndexSound tree block) where
+  scanned : TreeAsScanned tree block (indexRoot block)
+  scanned = tree-holds tree block (indexRoot block) (sound .index)
 
-  scan-answers : (id : ℕ) → rowOf block id ≡ rowFrom (answer (withKey rowId id (rowRecords block)) 0)
+  scan-answers : (id : ℕ) → rowOf tree block id ≡ rowFrom tree (answer (withKey (rowId tree) id (rowRecords tree block)) 0)
   scan-answers id =
-      row-on block id (index-exactly block .1 (sound .table, sound .tree .record-fits)) ∙ read-says _ _ _ _ _ (tree .answers id)
+      row-on tree block id (index-exactly tree block .1 (sound .table, sound .index .record-fits)) ∙ read-says _ _ _ _ _ (scanned .answers id)
 
-  scan-absent : (id : ℕ) → (rowOf block id ≡ Absent) ↔ Missing id (map rowId (rowRecords block))
+  scan-absent : (id : ℕ) → (rowOf tree block id ≡ Absent) ↔ Missing id (map (rowId tree) (rowRecords tree block))
   scan-absent id = (
-    (λ e. missing-exactly rowId id (rowRecords block) .0 (answer-there block (withKey rowId id (rowRecords block)) (sym (scan-answers id) ∙ e))),
-    (λ m. scan-answers id ∙ ap (λ (o : Option (List ℕ)). rowFrom (answer o 0)) (missing-exactly rowId id (rowRecords block) .1 m) ∙ case-none (told block) Absent Refused 0),
+    (λ e. missing-exactly (rowId tree) id (rowRecords tree block) .0 (answer-there tree (withKey (rowId tree) id (rowRecords tree block)) (sym (scan-answers id) ∙ e))),
+    (λ m. scan-answers id ∙ ap (λ (o : Option (List ℕ)). rowFrom tree (answer o 0)) (missing-exactly (rowId tree) id (rowRecords tree block) .1 m) ∙ case-none (told tree) Absent Refused 0),
   )
 
 -- the theorem: a lookup in a sound row index answers as the plain scan does
 pub row-scan-holds : RowScanHolds
-row-scan-holds block sound = record { answers = scan-answers block sound; ascending = tree block sound .ascending; absent-iff = scan-absent block sound }
+row-scan-holds tree block sound = record { answers = scan-answers tree block sound; ascending = scanned tree block sound .ascending; absent-iff = scan-absent tree block sound }

@@ -13,7 +13,7 @@ ghost use Rattle.heaptree.specs.Lookup.{fromRoot};
 ghost use Rattle.heaptree.specs.Root.{Rooted};
 ghost use Rattle.table.specs.Context.{tableRecord, contextRules, tableTest, TableSound};
 ghost use Rattle.table.specs.Says.{namedBy, tableIn, tableOf, columnIn, columnOf};
-ghost use Rattle.table.specs.RowIndex.{rowIndex, indexRoot, indexTest, rowFrom, rowOf};
+ghost use Rattle.table.specs.RowIndex.{rowIndexOf, rowIndex, rowIndex32, FairIndex, rowFrom, indexRoot, indexTest, rowOf};
 
 // What a value names: nothing, an item of the heap, or a subnode.
 pub enum Named {
@@ -151,49 +151,66 @@ pub fn column_of(block: &[u8], index: u32) -> ColumnAnswer
     }
 }
 
-// The row index: its keys are ids of rows, its entries row numbers.
-fn row_index() -> HeapTree
-    ensures { λ r. ⌜ r ≡ rowIndex ⌝ }
+// A row index whose entries have so many bytes: its keys are ids of rows, its entries row numbers.
+fn row_index(entry: usize) -> HeapTree
+    ensures { λ r. ⌜ r ≡ rowIndexOf entry ⌝ }
 {
     HeapTree {
         key: 4,
-        entry: 4,
+        entry,
         fault: Fault::TableShape,
     }
 }
 
 // The table, then the record from which the row index starts.
-fn test_index(block: &[u8]) -> Verdict
-    ensures { λ r. ⌜ r ≡ indexTest (now (block .entry)) ⌝ }
+fn test_index(block: &[u8], tree: HeapTree) -> Verdict
+    ensures { λ r. ⌜ r ≡ indexTest tree (now (block .entry)) ⌝ }
 {
     let verdict = test_table(block);
     let Verdict::Accepted = verdict else {
         return verdict;
     };
     let root = columns::row_index_item(record_of(block));
-    heaptree::check_root(block, row_index(), root)
+    heaptree::check_root(block, tree, root)
 }
 
-fn find_in_index(block: &[u8], id: u32) -> FoundRow
-    requires { ⌜ TableSound (now block) × Rooted rowIndex (now block) (indexRoot (now block)) ⌝ }
-    ensures { λ r. ⌜ r ≡ rowFrom (fromRoot rowIndex (now (block .entry)) (indexRoot (now (block .entry))) id) ⌝ }
+fn find_in_index(block: &[u8], tree: HeapTree, id: u32) -> FoundRow
+    requires { ⌜ TableSound (now block) × FairIndex tree × Rooted tree (now block) (indexRoot (now block)) ⌝ }
+    ensures { λ r. ⌜ r ≡ rowFrom tree (fromRoot tree (now (block .entry)) (indexRoot (now (block .entry))) id) ⌝ }
 {
     let root = columns::row_index_item(record_of(block));
-    let found = heaptree::find_from(block, row_index(), root, id as u64);
+    let key = tree.key;
+    let entry = tree.entry;
+    let found = heaptree::find_from(block, tree, root, id as u64);
     match found {
-        FoundRecord::At(place) => FoundRow::Row(le::field4(block, place + 4)),
+        FoundRecord::At(place) => FoundRow::Row(le::field_of(block, place + key, entry) as u32),
         FoundRecord::Absent => FoundRow::Absent,
         FoundRecord::Refused(refusal) => FoundRow::Refused(refusal),
     }
 }
 
-// The number of the row with the id, by the row index.
-pub fn find_row(block: &[u8], id: u32) -> FoundRow
-    ensures { λ r. ⌜ r ≡ rowOf (now (block .entry)) id ⌝ }
+// The number of the row with the id, by this row index.
+fn find_row_in(block: &[u8], tree: HeapTree, id: u32) -> FoundRow
+    requires { ⌜ FairIndex tree ⌝ }
+    ensures { λ r. ⌜ r ≡ rowOf tree (now (block .entry)) id ⌝ }
 {
-    let verdict = test_index(block);
+    let verdict = test_index(block, tree);
     match verdict {
         Verdict::Refused(refusal) => FoundRow::Refused(refusal),
-        Verdict::Accepted => find_in_index(block, id),
+        Verdict::Accepted => find_in_index(block, tree, id),
     }
+}
+
+// The number of the row with the id, by the row index.
+pub fn find_row(block: &[u8], id: u32) -> FoundRow
+    ensures { λ r. ⌜ r ≡ rowOf rowIndex (now (block .entry)) id ⌝ }
+{
+    find_row_in(block, row_index(4), id)
+}
+
+// The same of a 32-bit file's table.
+pub fn find_row32(block: &[u8], id: u32) -> FoundRow
+    ensures { λ r. ⌜ r ≡ rowOf rowIndex32 (now (block .entry)) id ⌝ }
+{
+    find_row_in(block, row_index(2), id)
 }

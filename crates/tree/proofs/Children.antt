@@ -26,10 +26,11 @@ use Rattle.search.specs.SearchTree.{offspring, children}
 use Rattle.search.specs.Descent.{fromSeat, picked}
 use Rattle.search.specs.Records.{childAt, childrenFrom}
 use Rattle.search.proofs.Records.{entry-none, entry-some, children-all, children-at, children-none, children-drop, seat-is, chosen-none, chosen-some}
-use Rattle.page.specs.declared.Layout.{Layout}
+use Rattle.edition.specs.declared.Layout.{Layout}
 use Rattle.page.specs.declared.Level.the-variants.{Exactly}
 use Rattle.page.specs.declared.Link.{Link}
-use Rattle.page.specs.Layout.{shape, FairLayout}
+use Rattle.page.specs.Layout.{shape}
+use Rattle.edition.specs.Fair.{FairLayout}
 use Rattle.page.specs.Page.{page, countOf, levelOf, entries, keyIn, countsFit}
 use Rattle.page.proofs.PageLaws.{entries-are, keys-of-entries, entry-keyed, shape-size, shape-width, shape-reserved, leaf-size, entries-held, words-inside, few}
 use Rattle.tree.specs.declared.Next.the-variants.{Here, NoMore}

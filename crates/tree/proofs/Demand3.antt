@@ -17,7 +17,7 @@ use Rattle.search.specs.Promises.{AsScanned}
 use Rattle.search.proofs.Searched.{as-scanned, path-short}
 use Rattle.search.proofs.Routes.{one-route}
 use Rattle.header.specs.Header.{headerFits}
-use Rattle.page.specs.declared.Layout.{Layout}
+use Rattle.edition.specs.declared.Layout.{Layout}
 use Rattle.page.specs.Layout.{compared}
 use Rattle.page.specs.Page.{keyIn}
 use Rattle.tree.specs.Tree.{root, rootLevel, pageTree, treeFits, scan, allRoutes}

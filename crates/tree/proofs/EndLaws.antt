@@ -18,12 +18,11 @@ use Rattle.search.proofs.OffPath.{check-same, search-same}
 use Rattle.header.specs.Header.{headerRules}
 use Rattle.header.specs.End.{AlikeToEnd}
 use Rattle.header.proofs.EndLaws.{header-alike}
-use Rattle.page.specs.declared.Layout.{Layout}
+use Rattle.edition.specs.declared.Layout.{Layout}
 use Rattle.page.specs.declared.Link.{Link}
-use Rattle.page.specs.Layout.{nbt, bbt, FairLayout}
+use Rattle.edition.specs.Fair.{FairLayout}
 use Rattle.page.specs.Page.{page, levelOf, entries, keyIn, pageRules, pageFits}
 use Rattle.page.proofs.PageLaws.{page-rules}
-use Rattle.page.proofs.Fairs.{fair-nbt, fair-bbt}
 use Rattle.page.proofs.EndLaws.{page-alike, page-same}
 use Rattle.tree.specs.Tree.{root, rootLevel, linkOf, pageTree, treeRules, treeFits}
 use Rattle.tree.specs.Lookup.{askedFor, searched, searchRules}
@@ -84,23 +83,23 @@ module _ (L : Layout) (one other : List ℕ) (alike : AlikeToEnd one other) wher
         ended : (l : ℕ) (p : Link) (r : Refusal) → pageFits L other p ≡ Refused r → checkUnder (pageTree L other) l p ≡ Refused r
         ended l p r t = under-refused (pageTree L other) l p r (test-is L other l p ∙ t)
 
--- what the lookups and listings of both trees hand out
-module _ (one other : List ℕ) (alike : AlikeToEnd one other) (key : ℕ) where
-  pub node-alike : nodeOf one key ≡ nodeOf other key
+-- what lookups and listings hand out
+module _ (L : Layout) (fair : FairLayout L) (one other : List ℕ) (alike : AlikeToEnd one other) (key : ℕ) where
+  pub node-alike : nodeOf L one key ≡ nodeOf L other key
   unfolding nodeOf
-  node-alike = ap (λ (a : Answer (List ℕ)). asNode (shown nbt a)) (search-alike nbt one other alike fair-nbt Equal key)
+  node-alike = ap (λ (a : Answer (List ℕ)). asNode (shown L a)) (search-alike L one other alike fair Equal key)
 
-  pub block-alike : blockOf one key ≡ blockOf other key
+  pub block-alike : blockOf L one key ≡ blockOf L other key
   unfolding blockOf
-  block-alike = ap (λ (a : Answer (List ℕ)). asBlock (shown bbt a)) (search-alike bbt one other alike fair-bbt Equal key)
+  block-alike = ap (λ (a : Answer (List ℕ)). asBlock (shown L a)) (search-alike L one other alike fair Equal key)
 
-  pub next-node-alike : nextNodeOf one key ≡ nextNodeOf other key
+  pub next-node-alike : nextNodeOf L one key ≡ nextNodeOf L other key
   unfolding nextNodeOf
-  next-node-alike = ap (λ (a : Answer (List ℕ)). asNode (shown nbt a)) (search-alike nbt one other alike fair-nbt AtLeast key)
+  next-node-alike = ap (λ (a : Answer (List ℕ)). asNode (shown L a)) (search-alike L one other alike fair AtLeast key)
 
-  pub next-block-alike : nextBlockOf one key ≡ nextBlockOf other key
+  pub next-block-alike : nextBlockOf L one key ≡ nextBlockOf L other key
   unfolding nextBlockOf
-  next-block-alike = ap (λ (a : Answer (List ℕ)). asBlock (shown bbt a)) (search-alike bbt one other alike fair-bbt AtLeast key)
+  next-block-alike = ap (λ (a : Answer (List ℕ)). asBlock (shown L a)) (search-alike L one other alike fair AtLeast key)
 
 -- what the header is refused with, each call is refused with
 module _ (L : Layout) (image : List ℕ) (r : Refusal) (first : FirstFault (headerRules image) r) where

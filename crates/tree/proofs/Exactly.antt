@@ -9,7 +9,7 @@ use Rattle.refusal.specs.Order.{FirstFault}
 use Rattle.refusal.proofs.OrderLaws.{goes, then-left, then-right, refused-exactly}
 use Rattle.search.proofs.Checked.{exact}
 use Rattle.header.proofs.HeaderLaws.{header-exactly}
-use Rattle.page.specs.declared.Layout.{Layout}
+use Rattle.edition.specs.declared.Layout.{Layout}
 use Rattle.page.proofs.Exactly.{page-exactly}
 use Rattle.tree.specs.Tree.{root, rootLevel, pageTree, treeRules, treeFits}
 use Rattle.tree.specs.Sound.{TreeSound}

@@ -13,7 +13,7 @@ use Rattle.search.specs.Promises.{Counts}
 use Rattle.search.proofs.Searched.{counts, path-short}
 use Rattle.search.proofs.Tried.{verdictOf, checked-tried, checked-first-fault, checked-counts, reads-counted}
 use Rattle.header.specs.Header.{headerRules, headerFits}
-use Rattle.page.specs.declared.Layout.{Layout}
+use Rattle.edition.specs.declared.Layout.{Layout}
 use Rattle.page.specs.declared.Link.{Link}
 use Rattle.page.specs.Layout.{compared}
 use Rattle.tree.specs.Tree.{root, rootLevel, pageTree}

@@ -17,7 +17,7 @@ use Rattle.keys.specs.declared.Sought.{Sought}
 use Rattle.keys.specs.Search.{joined}
 use Rattle.search.proofs.Faulted.{FaultOf, check-fault, search-fault, joined-fault}
 use Rattle.header.specs.Header.{markRules, sealRules, lastRules, headerRules}
-use Rattle.page.specs.declared.Layout.{Layout}
+use Rattle.edition.specs.declared.Layout.{Layout}
 use Rattle.page.specs.Page.{pageFits}
 use Rattle.page.proofs.Exactly.{page-first-fault}
 use Rattle.page.proofs.KeyFaults.{key-faults}

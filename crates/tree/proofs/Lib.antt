@@ -12,3 +12,4 @@ pub mod InOrder
 pub mod BitZero
 pub mod KeyFaults
 pub mod EndLaws
+pub mod Large

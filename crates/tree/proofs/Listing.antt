@@ -19,7 +19,7 @@ use Rattle.search.proofs.Checked.{leaves-climb, all-leaves}
 use Rattle.search.proofs.Few.{few}
 use Rattle.search.proofs.Lists.{lists-all}
 use Rattle.header.specs.Header.{headerFits}
-use Rattle.page.specs.declared.Layout.{Layout}
+use Rattle.edition.specs.declared.Layout.{Layout}
 use Rattle.page.specs.declared.Link.{Link}
 use Rattle.page.specs.Layout.{asGiven}
 use Rattle.page.specs.Page.{entries, numberIn, keyIn}
@@ -55,11 +55,11 @@ few-pages-read L image from = by (headerFits image)
 
 -- the numbers of entries made of bytes
 module _ (L : Layout) where
-  abbrev Short : List ℕ → Type 0
+  abbrev pub Short : List ℕ → Type 0
   Short e = numberIn L e < 256 ^ L .key
 
   module _ (image : List ℕ) (h : Bytes image) where
-    scan-short : All Short (scan L image)
+    pub scan-short : All Short (scan L image)
     unfolding scan
     scan-short = all-leaves (pageTree L image) Short (λ l p. entries-short L image h (p .offset)) (rootLevel L image) (root L image)
 

@@ -15,9 +15,10 @@ use Rattle.search.specs.Descent.{descend, ofRead, reads, pathUnder}
 use Rattle.search.proofs.OffPath.{Same, descend-same, reads-on-path}
 use Rattle.header.specs.Header.{headerFits, fileEnd}
 use Rattle.header.proofs.HeaderLaws.{header-agrees, end-agrees, field-agrees}
-use Rattle.page.specs.declared.Layout.{Layout}
+use Rattle.edition.specs.declared.Layout.{Layout}
 use Rattle.page.specs.declared.Link.{Link}
-use Rattle.page.specs.Layout.{compared, FairLayout}
+use Rattle.page.specs.Layout.{compared}
+use Rattle.edition.specs.Fair.{FairLayout}
 use Rattle.page.specs.Page.{page, levelOf, entries, keyIn, pageRules}
 use Rattle.page.proofs.PageLaws.{rules-agree}
 use Rattle.tree.specs.Tree.{root, rootLevel, linkOf, pageTree}

@@ -5,7 +5,7 @@ use mathlib.Core.List.{List}
 use native.Mathlib.Omega.{arith}
 use lib.ListN.{length}
 use Rattle.search.specs.Promises.{Sorted, Filled, Placed}
-use Rattle.page.specs.declared.Layout.{Layout}
+use Rattle.edition.specs.declared.Layout.{Layout}
 use Rattle.page.specs.Page.{page, levelOf, entries}
 use Rattle.page.proofs.PageLaws.{all-of-page, page-keys}
 use Rattle.tree.specs.Tree.{linkOf, pageTree}

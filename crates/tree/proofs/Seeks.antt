@@ -15,7 +15,7 @@ use Rattle.search.specs.SearchTree.{children}
 use Rattle.search.specs.Answer.{Answer, found, absent, refused, counted, orNext, inTurn}
 use Rattle.search.specs.Descent.{picked, descend}
 use Rattle.search.proofs.Few.{answer-ends, behind-direct}
-use Rattle.page.specs.declared.Layout.{Layout}
+use Rattle.edition.specs.declared.Layout.{Layout}
 use Rattle.page.specs.declared.Link.{Link}
 use Rattle.page.specs.Page.{page, entries, keyIn, pageFits}
 use Rattle.tree.specs.declared.Found.{Found}

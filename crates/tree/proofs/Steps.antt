@@ -20,9 +20,9 @@ use Rattle.search.proofs.Searched.{Single, nobody, somebody, single, all-from-s
 use Rattle.search.proofs.Steps.{counted-none, step-refused, step-leaf, step-index, step-none}
 use Rattle.search.proofs.Born.{Born, children-born}
 use Rattle.header.specs.Header.{headerFits}
-use Rattle.page.specs.declared.Layout.{Layout}
+use Rattle.edition.specs.declared.Layout.{Layout}
 use Rattle.page.specs.declared.Link.{Link}
-use Rattle.page.specs.Layout.{nbt, compared}
+use Rattle.page.specs.Layout.{compared}
 use Rattle.page.specs.Page.{page, levelOf, entries, keyIn, offsetFits, pageFits}
 use Rattle.page.proofs.PageLaws.{page-ends}
 use Rattle.tree.specs.declared.Next.the-variants.{Here, NoMore}
@@ -117,13 +117,13 @@ chosen-level L image k l p c e ok =
     accepted-level L image c ok l (born-level L image l c (all .0))
 
 -- a node is found only where the header is accepted
-pub node-header : (image : List ℕ) (key : ℕ) (d : Node) (n : ℕ) → nodeOf image key ≡ node.Found d n → headerFits image ≡ Accepted
+pub node-header : (L : Layout) (image : List ℕ) (key : ℕ) (d : Node) (n : ℕ) → nodeOf L image key ≡ node.Found d n → headerFits image ≡ Accepted
 unfolding nodeOf searched asNode shown
-node-header image key d n e = by (headerFits image) refl
+node-header L image key d n e = by (headerFits image) refl
   where
     by : (v : Verdict) → headerFits image ≡ v → v ≡ Accepted
     by Accepted v = refl
     by (Refused r) v =
-        let other = ap (λ a. asNode (shown nbt a)) (ends refused _ (descend (pageTree nbt image) Equal (compared nbt key) (rootLevel nbt image) (root nbt image)) r v) in
+        let other = ap (λ a. asNode (shown L a)) (ends refused _ (descend (pageTree L image) Equal (compared L key) (rootLevel L image) (root L image)) r v) in
         let clash : _≡_ {A = ℕ} 0 1 = cc in
         absurd (omega arith)

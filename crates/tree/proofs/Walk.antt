@@ -18,7 +18,7 @@ use Rattle.search.specs.SearchTree.{offspring, test, rulesUnder, checkUnder, ea
 use Rattle.search.proofs.Checked.{each-none, each-more, under-leaf, under-index, under-refused}
 use Rattle.search.proofs.Born.{Born, of-born}
 use Rattle.header.specs.Header.{headerRules, headerFits}
-use Rattle.page.specs.declared.Layout.{Layout}
+use Rattle.edition.specs.declared.Layout.{Layout}
 use Rattle.page.specs.declared.Level.the-variants.{Exactly}
 use Rattle.page.specs.declared.Link.{Link}
 use Rattle.page.specs.Layout.{shape}

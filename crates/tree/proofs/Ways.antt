@@ -18,9 +18,9 @@ use Rattle.search.proofs.Searched.{counted-answer}
 use Rattle.search.proofs.Steps.{counted-none, counted-more, step-refused, step-leaf, step-none, step-one}
 use Rattle.search.proofs.Kept.{kept}
 use Rattle.header.specs.Header.{headerFits}
-use Rattle.page.specs.declared.Layout.{Layout}
+use Rattle.edition.specs.declared.Layout.{Layout}
 use Rattle.page.specs.declared.Link.{Link}
-use Rattle.page.specs.Layout.{nbt, compared}
+use Rattle.page.specs.Layout.{compared}
 use Rattle.page.specs.Page.{page, levelOf, pageFits}
 use Rattle.tree.specs.declared.Way.{Way}
 use Rattle.tree.specs.declared.Way.the-variants as way
@@ -142,6 +142,6 @@ module _ (L : Layout) (image : List ℕ) where
           sym (ends refused _ _ r (h ∙ ap Refused same))
 
 -- the same of a node
-pub node-refused : (image : List ℕ) (key : ℕ) (r : Refusal) → startFits nbt image ≡ Refused r → node.Refused r ≡ nodeOf image key
+pub node-refused : (L : Layout) (image : List ℕ) (key : ℕ) (r : Refusal) → startFits L image ≡ Refused r → node.Refused r ≡ nodeOf L image key
 unfolding nodeOf shown asNode
-node-refused image key r q = ap (λ a. asNode (shown nbt a)) (lookup-refused nbt image key r q)
+node-refused L image key r q = ap (λ a. asNode (shown L a)) (lookup-refused L image key r q)

@@ -4,8 +4,8 @@ use mathlib.Core.Path.{_≡_}
 use mathlib.Core.List.{List, [], _∷_, map}
 use Rattle.le.specs.Bytes.{field}
 use Rattle.refusal.specs.declared.Verdict.the-variants.{Accepted}
-use Rattle.page.specs.declared.Column.{Column}
-use Rattle.page.specs.declared.Layout.{Layout}
+use Rattle.edition.specs.declared.Column.{Column}
+use Rattle.edition.specs.declared.Layout.{Layout}
 use Rattle.page.specs.declared.Link.{Link}
 use Rattle.keys.specs.declared.End.{End}
 use Rattle.keys.specs.declared.Sought.the-variants.{Equal}
@@ -14,7 +14,7 @@ use Rattle.search.specs.SearchTree.{offspring}
 use Rattle.search.specs.Records.{childrenFrom}
 use Rattle.search.specs.Descent.{fromSeat}
 use Rattle.search.specs.Answer.{Answer, found, absent, refused}
-use Rattle.page.specs.Layout.{nbt, bbt, shape}
+use Rattle.page.specs.Layout.{shape}
 use Rattle.page.specs.Page.{page, countOf, levelOf, entries, keyIn, pageFits}
 use Rattle.tree.specs.declared.Fields.{Fields}
 use Rattle.tree.specs.declared.Found.{Found}
@@ -46,29 +46,29 @@ shown L (found e n) = Entry (fieldsOf L e) n
 shown L (absent n) = Absent n
 shown L (refused r) = Refused r
 
--- the outcome of a node lookup, and of a block lookup
+-- the outcome of a node lookup, and of a block lookup, by the layout of either tree in some edition
 unfoldable pub asNode : Found → FoundNode
 asNode (Entry f n) = node.Found (record { node = f .first; block = f .second; subnode = f .third; parent = f .fourth }) n
 asNode (Absent n) = node.Absent n
 asNode (Refused r) = node.Refused r
 
-unfoldable pub nodeOf : List ℕ → ℕ → FoundNode
-nodeOf image key = asNode (shown nbt (lookup nbt image key))
+unfoldable pub nodeOf : Layout → List ℕ → ℕ → FoundNode
+nodeOf L image key = asNode (shown L (lookup L image key))
 
 unfoldable pub asBlock : Found → FoundBlock
 asBlock (Entry f n) = block.Found (record { block = f .first; offset = f .second; size = f .third; references = f .fourth }) n
 asBlock (Absent n) = block.Absent n
 asBlock (Refused r) = block.Refused r
 
-unfoldable pub blockOf : List ℕ → ℕ → FoundBlock
-blockOf image key = asBlock (shown bbt (lookup bbt image key))
+unfoldable pub blockOf : Layout → List ℕ → ℕ → FoundBlock
+blockOf L image key = asBlock (shown L (lookup L image key))
 
 -- the first entry from a key on, in each tree
-unfoldable pub nextNodeOf : List ℕ → ℕ → FoundNode
-nextNodeOf image from = asNode (shown nbt (next nbt image from))
+unfoldable pub nextNodeOf : Layout → List ℕ → ℕ → FoundNode
+nextNodeOf L image from = asNode (shown L (next L image from))
 
-unfoldable pub nextBlockOf : List ℕ → ℕ → FoundBlock
-nextBlockOf image from = asBlock (shown bbt (next bbt image from))
+unfoldable pub nextBlockOf : Layout → List ℕ → ℕ → FoundBlock
+nextBlockOf L image from = asBlock (shown L (next L image from))
 
 -- the children of a page from the i-th on
 unfoldable pub kidsFrom : Layout → List ℕ → ℕ → Link → ℕ → List Link

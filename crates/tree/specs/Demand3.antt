@@ -16,8 +16,9 @@ use Rattle.keys.specs.Records.{cleared}
 use Rattle.keys.specs.Search.{withKey}
 use Rattle.search.specs.Answer.{found, absent, refused, answer}
 use Rattle.search.specs.Promises.{Counts}
-use Rattle.page.specs.declared.Layout.{Layout}
-use Rattle.page.specs.Layout.{compared, FairLayout}
+use Rattle.edition.specs.declared.Layout.{Layout}
+use Rattle.page.specs.Layout.{compared}
+use Rattle.edition.specs.Fair.{FairLayout}
 use Rattle.page.specs.Page.{page, keyIn}
 use Rattle.tree.specs.Tree.{rootLevel, treeFits, scan, allRoutes}
 use Rattle.tree.specs.Lookup.{searched, lookup, path, searchRules, pagesRead}

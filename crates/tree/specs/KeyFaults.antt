@@ -7,7 +7,7 @@ use Rattle.refusal.specs.declared.Fault.the-variants.{KeyOrder, KeyRange}
 use Rattle.refusal.specs.declared.Refusal.{Refusal}
 use Rattle.refusal.specs.Order.{atEntry}
 use Rattle.search.specs.SearchTree.{Reached}
-use Rattle.page.specs.declared.Layout.{Layout}
+use Rattle.edition.specs.declared.Layout.{Layout}
 use Rattle.page.specs.declared.Link.{Link}
 use Rattle.page.specs.KeyFaults.{BreaksOrder, BreaksRange}
 use Rattle.tree.specs.Tree.{root, rootLevel, pageTree}

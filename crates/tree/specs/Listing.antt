@@ -12,7 +12,7 @@ use Rattle.keys.specs.Plain.{All}
 use Rattle.keys.specs.Search.{fromKey}
 use Rattle.search.specs.Promises.{Says}
 use Rattle.search.specs.Promises as search
-use Rattle.page.specs.declared.Layout.{Layout}
+use Rattle.edition.specs.declared.Layout.{Layout}
 use Rattle.page.specs.Layout.{asGiven}
 use Rattle.page.specs.Page.{numberIn, keyIn}
 use Rattle.tree.specs.Tree.{rootLevel, treeFits, scan}

@@ -7,7 +7,7 @@ use Rattle.keys.specs.declared.Sought.the-variants.{Equal, AtLeast}
 use Rattle.search.specs.Answer.{Answer, refused}
 use Rattle.search.specs.Descent.{descend, reads, rulesRead, pathUnder}
 use Rattle.header.specs.Header.{headerRules, headerFits}
-use Rattle.page.specs.declared.Layout.{Layout}
+use Rattle.edition.specs.declared.Layout.{Layout}
 use Rattle.page.specs.Layout.{asGiven, compared}
 use Rattle.tree.specs.Tree.{root, rootLevel, pageTree}
 

@@ -3,7 +3,7 @@ use Prim.Native.Nat.{ℕ}
 use mathlib.Core.List.{List}
 use Rattle.search.specs.SearchTree.{Reached}
 use Rattle.header.specs.Sound.{HeaderSound}
-use Rattle.page.specs.declared.Layout.{Layout}
+use Rattle.edition.specs.declared.Layout.{Layout}
 use Rattle.page.specs.declared.Link.{Link}
 use Rattle.page.specs.Sound.{PageSound}
 use Rattle.tree.specs.Tree.{root, rootLevel, pageTree}

@@ -8,7 +8,7 @@ use Rattle.keys.specs.declared.End.the-variants.{Open}
 use Rattle.keys.specs.declared.Range.{Range}
 use Rattle.search.specs.SearchTree.{SearchTree, rulesUnder, leaves, routes}
 use Rattle.header.specs.Header.{headerRules}
-use Rattle.page.specs.declared.Layout.{Layout}
+use Rattle.edition.specs.declared.Layout.{Layout}
 use Rattle.page.specs.declared.Level.the-variants.{AtRoot, Exactly}
 use Rattle.page.specs.declared.Link.{Link}
 use Rattle.page.specs.Page.{page, levelOf, entries, keyIn, pageRules}

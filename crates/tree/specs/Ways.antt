@@ -13,7 +13,7 @@ use Rattle.keys.specs.Search.{scanned}
 use Rattle.search.specs.Answer.{Answer, absent, refused, answer, counted}
 use Rattle.search.specs.Descent.{descend}
 use Rattle.header.specs.Header.{headerFits}
-use Rattle.page.specs.declared.Layout.{Layout}
+use Rattle.edition.specs.declared.Layout.{Layout}
 use Rattle.page.specs.declared.Link.{Link}
 use Rattle.page.specs.Page.{page, levelOf, entries, keyIn, pageFits}
 use Rattle.tree.specs.declared.Way.{Way}

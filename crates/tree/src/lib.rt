@@ -1,11 +1,11 @@
-// The whole-tree check and the lookup of a key, over any layout; and the calls for the two trees.
+// The whole-tree check and the lookup of a key, over any layout; and what they come to as a node or a block.
+use edition::Column;
+use edition::Layout;
 use keys::End;
 use keys::Range;
 use keys::Seat;
 use keys::Shape;
 use keys::Sought;
-use page::Column;
-use page::Layout;
 use page::Level;
 use page::Link;
 use refusal::Refusal;
@@ -23,7 +23,8 @@ ghost use Rattle.search.specs.Answer.{answer, counted};
 ghost use Rattle.search.specs.Descent.{picked, descend};
 ghost use Rattle.search.specs.Records.{childAt, childrenFrom};
 ghost use Rattle.header.specs.Header.{headerFits};
-ghost use Rattle.page.specs.Layout.{FairLayout, Within, nbt, bbt, shape, compared};
+ghost use Rattle.page.specs.Layout.{shape, compared};
+ghost use Rattle.edition.specs.Fair.{FairLayout, Within};
 ghost use Rattle.page.specs.Page.{page, countOf, levelOf, entries, keyIn, offsetFits, countsFit, pageFits};
 ghost use Rattle.tree.specs.Tree.{root, linkOf, pageTree, treeFits};
 ghost use Rattle.tree.specs.Lookup.{lookup, next};
@@ -426,7 +427,7 @@ fn stated_level(image: &[u8], l: Layout, offset: u64) -> usize
 }
 
 // The whole-tree check.
-fn check_tree(image: &[u8], l: Layout) -> Verdict
+pub fn check_tree(image: &[u8], l: Layout) -> Verdict
     requires { ⌜ FairLayout l ⌝ }
     ensures { λ r. ⌜ r ≡ treeFits l (now (image .entry)) ⌝ }
 {
@@ -438,17 +439,29 @@ fn check_tree(image: &[u8], l: Layout) -> Verdict
     check_under(image, l, stated_level(image, l, p.offset), p)
 }
 
-// The check of the root page, in an image whose header is accepted.
-fn check_root(image: &[u8], l: Layout) -> Verdict
+// For a call that looks up many keys in an image whose header is accepted: the check of the root page.
+pub fn check_root(image: &[u8], l: Layout) -> Verdict
     requires { ⌜ FairLayout l × (headerFits (now image) ≡ Verdict.Accepted) ⌝ }
     ensures { λ r. ⌜ r ≡ startFits l (now (image .entry)) ⌝ }
 {
     verdict_on(image, l, root_link(image, l))
 }
 
+// For a call that looks up many keys: what each lookup tests before it goes down.
+pub fn check_start(image: &[u8], l: Layout) -> Verdict
+    requires { ⌜ FairLayout l ⌝ }
+    ensures { λ r. ⌜ r ≡ startFits l (now (image .entry)) ⌝ }
+{
+    let verdict = header::check_header(image);
+    let Verdict::Accepted = verdict else {
+        return verdict;
+    };
+    check_root(image, l)
+}
+
 // The way of a key, where `start` is what came of the header and the root page. A way that was found
 // before is taken again where it leads to the key.
-fn way_to(image: &[u8], l: Layout, start: Verdict, last: Way, key: u64) -> Way
+pub fn way_to(image: &[u8], l: Layout, start: Verdict, last: Way, key: u64) -> Way
     requires { ⌜ FairLayout l × (start ≡ startFits l (now image)) × FromRoot l (now image) last ⌝ }
     ensures { λ r. ⌜ (atEnd l (now (image .entry)) r (compared l key) ≡ lookup l (now (image .entry)) key) × FromRoot l (now (image .entry)) r ⌝ }
 {
@@ -500,18 +513,6 @@ fn find_next(image: &[u8], l: Layout, from: u64) -> Found
     seek(image, l, level, p, page::as_given(l, from), 0)
 }
 
-pub fn check_nodes(image: &[u8]) -> Verdict
-    ensures { λ r. ⌜ r ≡ treeFits nbt (now (image .entry)) ⌝ }
-{
-    check_tree(image, page::nodes())
-}
-
-pub fn check_blocks(image: &[u8]) -> Verdict
-    ensures { λ r. ⌜ r ≡ treeFits bbt (now (image .entry)) ⌝ }
-{
-    check_tree(image, page::blocks())
-}
-
 fn as_node(found: Found) -> FoundNode
     ensures { λ r. ⌜ r ≡ asNode found ⌝ }
 {
@@ -530,44 +531,25 @@ fn as_node(found: Found) -> FoundNode
     }
 }
 
-pub fn find_node(image: &[u8], node: u64) -> FoundNode
-    ensures { λ r. ⌜ r ≡ nodeOf (now (image .entry)) node ⌝ }
+pub fn find_node(image: &[u8], l: Layout, node: u64) -> FoundNode
+    requires { ⌜ FairLayout l ⌝ }
+    ensures { λ r. ⌜ r ≡ nodeOf l (now (image .entry)) node ⌝ }
 {
-    as_node(find(image, page::nodes(), node))
+    as_node(find(image, l, node))
 }
 
-pub fn next_node(image: &[u8], from: u64) -> FoundNode
-    ensures { λ r. ⌜ r ≡ nextNodeOf (now (image .entry)) from ⌝ }
+pub fn next_node(image: &[u8], l: Layout, from: u64) -> FoundNode
+    requires { ⌜ FairLayout l ⌝ }
+    ensures { λ r. ⌜ r ≡ nextNodeOf l (now (image .entry)) from ⌝ }
 {
-    as_node(find_next(image, page::nodes(), from))
-}
-
-// For a call that looks up many nodes: what each lookup tests before it goes down.
-pub fn check_node_start(image: &[u8]) -> Verdict
-    ensures { λ r. ⌜ r ≡ startFits nbt (now (image .entry)) ⌝ }
-{
-    let verdict = header::check_header(image);
-    let Verdict::Accepted = verdict else {
-        return verdict;
-    };
-    check_root(image, page::nodes())
-}
-
-// The way of a node, where `start` is what came of that; the way of a node before it is taken again
-// where it leads to this one.
-pub fn way_to_node(image: &[u8], start: Verdict, last: Way, node: u64) -> Way
-    requires { ⌜ (start ≡ startFits nbt (now image)) × FromRoot nbt (now image) last ⌝ }
-    ensures { λ r. ⌜ (atEnd nbt (now (image .entry)) r (compared nbt node) ≡ lookup nbt (now (image .entry)) node) × FromRoot nbt (now (image .entry)) r ⌝ }
-{
-    way_to(image, page::nodes(), start, last, node)
+    as_node(find_next(image, l, from))
 }
 
 // The node at the end of its way.
-pub fn node_at(image: &[u8], way: Way, node: u64) -> FoundNode
-    requires { ⌜ FromRoot nbt (now image) way × (atEnd nbt (now image) way (compared nbt node) ≡ lookup nbt (now image) node) ⌝ }
-    ensures { λ r. ⌜ r ≡ nodeOf (now (image .entry)) node ⌝ }
+pub fn node_at(image: &[u8], l: Layout, way: Way, node: u64) -> FoundNode
+    requires { ⌜ FairLayout l × FromRoot l (now image) way × (atEnd l (now image) way (compared l node) ≡ lookup l (now image) node) ⌝ }
+    ensures { λ r. ⌜ r ≡ nodeOf l (now (image .entry)) node ⌝ }
 {
-    let l = page::nodes();
     as_node(end_of(image, l, way, page::compared(l, node)))
 }
 
@@ -589,49 +571,32 @@ fn as_block(found: Found) -> FoundBlock
     }
 }
 
-pub fn find_block(image: &[u8], block: u64) -> FoundBlock
-    ensures { λ r. ⌜ r ≡ blockOf (now (image .entry)) block ⌝ }
+pub fn find_block(image: &[u8], l: Layout, block: u64) -> FoundBlock
+    requires { ⌜ FairLayout l ⌝ }
+    ensures { λ r. ⌜ r ≡ blockOf l (now (image .entry)) block ⌝ }
 {
-    as_block(find(image, page::blocks(), block))
+    as_block(find(image, l, block))
 }
 
 // The same in an image whose header is accepted, for a call that looks up many blocks.
-pub fn find_block_in(image: &[u8], block: u64) -> FoundBlock
-    requires { ⌜ headerFits (now image) ≡ Verdict.Accepted ⌝ }
-    ensures { λ r. ⌜ r ≡ blockOf (now (image .entry)) block ⌝ }
+pub fn find_block_in(image: &[u8], l: Layout, block: u64) -> FoundBlock
+    requires { ⌜ FairLayout l × (headerFits (now image) ≡ Verdict.Accepted) ⌝ }
+    ensures { λ r. ⌜ r ≡ blockOf l (now (image .entry)) block ⌝ }
 {
-    as_block(find_in(image, page::blocks(), block))
-}
-
-// For a call that looks up many blocks in an image whose header is accepted: what each lookup tests
-// before it goes down.
-pub fn check_block_start(image: &[u8]) -> Verdict
-    requires { ⌜ headerFits (now image) ≡ Verdict.Accepted ⌝ }
-    ensures { λ r. ⌜ r ≡ startFits bbt (now (image .entry)) ⌝ }
-{
-    check_root(image, page::blocks())
-}
-
-// The way of a block, where `start` is what came of that; the way of a block before it is taken again
-// where it leads to this one.
-pub fn way_to_block(image: &[u8], start: Verdict, last: Way, block: u64) -> Way
-    requires { ⌜ (start ≡ startFits bbt (now image)) × FromRoot bbt (now image) last ⌝ }
-    ensures { λ r. ⌜ (atEnd bbt (now (image .entry)) r (compared bbt block) ≡ lookup bbt (now (image .entry)) block) × FromRoot bbt (now (image .entry)) r ⌝ }
-{
-    way_to(image, page::blocks(), start, last, block)
+    as_block(find_in(image, l, block))
 }
 
 // The block at the end of its way.
-pub fn block_at(image: &[u8], way: Way, block: u64) -> FoundBlock
-    requires { ⌜ FromRoot bbt (now image) way × (atEnd bbt (now image) way (compared bbt block) ≡ lookup bbt (now image) block) ⌝ }
-    ensures { λ r. ⌜ r ≡ blockOf (now (image .entry)) block ⌝ }
+pub fn block_at(image: &[u8], l: Layout, way: Way, block: u64) -> FoundBlock
+    requires { ⌜ FairLayout l × FromRoot l (now image) way × (atEnd l (now image) way (compared l block) ≡ lookup l (now image) block) ⌝ }
+    ensures { λ r. ⌜ r ≡ blockOf l (now (image .entry)) block ⌝ }
 {
-    let l = page::blocks();
     as_block(end_of(image, l, way, page::compared(l, block)))
 }
 
-pub fn next_block(image: &[u8], from: u64) -> FoundBlock
-    ensures { λ r. ⌜ r ≡ nextBlockOf (now (image .entry)) from ⌝ }
+pub fn next_block(image: &[u8], l: Layout, from: u64) -> FoundBlock
+    requires { ⌜ FairLayout l ⌝ }
+    ensures { λ r. ⌜ r ≡ nextBlockOf l (now (image .entry)) from ⌝ }
 {
-    as_block(find_next(image, page::blocks(), from))
+    as_block(find_next(image, l, from))
 }

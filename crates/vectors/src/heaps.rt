@@ -1,12 +1,11 @@
 // 003, 3.8 to 3.11: the heap of a message store's properties and that of a table, their items and properties.
-use crate::answers;
 use heap::Span;
 use libc::STDOUT_FILENO;
 use property::Property;
 
 fn say_span(span: Span) {
     match span {
-        Span::Refused(wrong) => answers::say_refusal(wrong),
+        Span::Refused(wrong) => shown::say_refused(wrong),
         Span::Within(start, size) => {
             io::print_decimal(STDOUT_FILENO, size as u64);
             said::say_decimal(b" bytes at ", start as u64);
@@ -43,7 +42,7 @@ fn say_property(answer: Property) {
         Property::Item(code, value) => say_value(code, b", item ", value),
         Property::Subnode(code, value) => say_value(code, b", subnode ", value),
         Property::Absent => said::say(b"absent\n"),
-        Property::Refused(wrong) => answers::say_refusal(wrong),
+        Property::Refused(wrong) => shown::say_refused(wrong),
     }
 }
 
@@ -51,7 +50,7 @@ fn heap_line(section: &[u8], block: &[u8]) {
     said::say(section);
     said::say_decimal(b" test_heap of ", block.len() as u64);
     said::say(b" bytes: ");
-    answers::say_verdict(heap::test_heap(block));
+    shown::say_tested(heap::test_heap(block));
 }
 
 fn say_item_call(section: &[u8], call: &[u8], item: u32) {
@@ -63,7 +62,7 @@ fn say_item_call(section: &[u8], call: &[u8], item: u32) {
 
 fn test_line(section: &[u8], block: &[u8], item: u32) {
     say_item_call(section, b" test_item ", item);
-    answers::say_verdict(heap::test_item(block, item));
+    shown::say_tested(heap::test_item(block, item));
 }
 
 // The three calls on an item of 3.8.
@@ -94,7 +93,7 @@ fn store_items(block: &[u8]) {
     item_lines(block, 0xE0);
     item_lines(block, 0x100);
     item_lines(block, 0x120);
-    item_lines(block, 0);
+    item_lines(block, 1);
 }
 
 // 3.10: eleven properties, and an id that none has.
@@ -110,7 +109,7 @@ fn store_properties(block: &[u8]) {
     property_line(b"3.10", block, 0x6633);
     property_line(b"3.10", block, 0x66FA);
     property_line(b"3.10", block, 0x67FF);
-    property_line(b"3.10", block, 0x3002);
+    property_line(b"3.10", block, 0x3003);
 }
 
 fn store(block: &[u8]) {
@@ -130,7 +129,7 @@ fn table(block: &[u8]) {
     test_line(b"3.11", block, 0xC0);
     test_line(b"3.11", block, 0xE0);
     test_line(b"3.11", block, 0x100);
-    property_line(b"3.11", block, 0x3001);
+    property_line(b"3.11", block, 0x3003);
 }
 
 pub fn store_heap() {

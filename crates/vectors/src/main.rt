@@ -1,6 +1,5 @@
 // Runs the worked examples of 003, and others of its formats, from the files of data/. Each line says
 // the section, the call and the answer; where the file lists the answer too, whether it is that one.
-mod answers;
 mod heaps;
 mod mini;
 mod pages;
@@ -10,52 +9,10 @@ use libc::STDOUT_FILENO;
 ghost use Prim.Native.Nat.{_≤_, _<_};
 ghost use lib.ListN.{length};
 
-// 003, 3.2: the checksum of so many bytes from 8 stands in the header at `place`.
-fn header_checksum(header: &[u8], size: usize, place: usize) {
-    if header.len() < 564 {
-        said::say(b"3.2 header cut short\n");
-        return;
-    }
-    if 556 < size {
-        return;
-    }
-    if 560 < place {
-        return;
-    }
-    let sum = crc::checksum(&header[8..8 + size]);
-    said::say_decimal(b"3.2 checksum of ", size as u64);
-    said::say(b" bytes at 8: ");
-    io::print_hex(STDOUT_FILENO, sum as u64, 8);
-    listed::say_whether(sum == le::field4(header, place));
-}
-
-fn header_checksums() {
-    let mut header = [0u8; 564];
-    let file = listed::load_hex(b"3.2_header.hex", &mut header);
-    if !file.whole {
-        return;
-    }
-    let size = file.size;
-    pages::header_line(b"3.2", &header[..size]);
-    header_checksum(&header[..size], 471, 4);
-    header_checksum(&header[..size], 516, 524);
-}
-
-// The same with its end-of-file number set to where the dump ends, and sealed anew.
-fn ended_header() {
-    let mut header = [0u8; 564];
-    let file = listed::load_hex(b"3.2_header_ended.hex", &mut header);
-    if !file.whole {
-        return;
-    }
-    let size = file.size;
-    pages::header_line(b"3.2 ended", &header[..size]);
-}
-
 fn say_call(section: &[u8], call: &[u8], method: u8, block: u64, bytes: &[u8]) {
     said::say(section);
     said::say_decimal(call, method as u64);
-    said::say(b" block ");
+    said::say(b" blocks ");
     io::print_hex(STDOUT_FILENO, block, 8);
     said::say(b" bytes ");
     listed::say_bytes(bytes);
@@ -94,7 +51,7 @@ fn cyclic_line(letters: &[u8], from: usize) -> usize
     let n = first.size;
     let m = second.size;
     let mut work = plain;
-    encode(b"5.2", 2, block, &mut work[..n], &coded[..m]);
+    encode(b"5.9", 2, block, &mut work[..n], &coded[..m]);
     let mut back = coded;
     decode(b"5.2", 2, block, &mut back[..m], &plain[..n]);
     second.end
@@ -114,7 +71,7 @@ fn permute_line(letters: &[u8], from: usize)
     let m = second.size;
     let k = third.size;
     let mut work = plain;
-    encode(b"5.1", 1, 0, &mut work[..n], &by_r[..m]);
+    encode(b"5.9", 1, 0, &mut work[..n], &by_r[..m]);
     let mut back = plain;
     decode(b"5.1", 1, 0, &mut back[..n], &by_i[..k]);
 }
@@ -141,8 +98,7 @@ fn coding_vectors() {
 }
 
 fn main() {
-    header_checksums();
-    ended_header();
+    pages::worked_header();
     pages::worked_pages();
     coding_vectors();
     tables::table_lines();

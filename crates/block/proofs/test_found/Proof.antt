@@ -1,4 +1,4 @@
-use Rattle.block.proofs.BlockLaws.{fair-trailer, tested-accepted, tested-refused, unlisted, lookup-refused}
+use Rattle.block.proofs.BlockLaws.{tested-accepted, tested-refused, unlisted, lookup-refused}
 use borrow.Author.Needs.{needs}
 use Rattle.block.proofs.test_found.Statement.{statement}
 use Rattle.block.proofs.test_found.Tie as tie
@@ -9,12 +9,11 @@ test-found-spec =
     (tie.spec
     (λ c. search needs)
     (λ c κs. search needs)
-    (λ c κs. rw (c .wide-trailer .ensures) fair-trailer)
     (λ c. search needs)
     (λ c. search needs)
     (λ c. search needs)
     (λ c. search needs)
-    (λ c. tested-accepted _ _ _ _ _ _ (c .before .before .before .before .before .found .given .1) (c .before .before .before .wide-trailer .ensures) (c .before .before .test-listed .ensures) (c .enum-told .given .1))
-    (λ c. tested-refused _ _ _ _ _ _ _ (c .before .before .before .before .before .before .found .given .1) (c .before .before .before .before .wide-trailer .ensures) (c .before .before .before .test-listed .ensures) (c .before .verdict .given .1))
-    (λ c. unlisted _ _ _ (c .enum-told2 .given .1))
-    (λ c. lookup-refused _ _ _ (c .before .found2 .given .1)))
+    (λ c. tested-accepted _ _ _ _ _ _ (c .before .before .before .before .found .given .1) (c .before .before .test-listed .ensures) (c .enum-told .given .1))
+    (λ c. tested-refused _ _ _ _ _ _ _ (c .before .before .before .before .before .found .given .1) (c .before .before .before .test-listed .ensures) (c .before .verdict .given .1))
+    (λ c. unlisted _ _ _ _ (c .enum-told2 .given .1))
+    (λ c. lookup-refused _ _ _ _ (c .before .found2 .given .1)))

@@ -51,7 +51,7 @@ check-marks-spec =
     (λ c κs. long-enough _ (holds _ _ (c .before .before .before .length-fits .ensures) (c .before .before .if1 .left)))
     (λ c κs. search needs)
     returns-3
-    (λ c κs. long-enough _ (holds _ _ (c .before .before .before .before .before .length-fits .ensures) (c .before .before .before .before .if1 .left)))
+    (λ c κs. search needs)
     (λ c κs. search needs)
     returns-4
     returns-5)

@@ -7,8 +7,8 @@ use Rattle.node.proofs.listed_at.Tie as tie
 
 returns : tie.Need-returns
 returns c =
-    let l = c .before .before .before .before .before .pre .0 in
-    l .is ∙ ap Block (sym (checked-same _ _ _ _ _ (l .is) (sym (c .before .before .before .block-at .ensures) ∙ c .before .found .given .1)))
+    let l = c .before .before .before .before .before .pre .1 in
+    l .is ∙ ap Block (sym (checked-same _ _ _ _ _ _ (l .is) (sym (c .before .before .before .block-at .ensures) ∙ c .before .found .given .1)))
 
 pub listed-at-spec : {M : Type 1} → statement M
 listed-at-spec =
@@ -19,5 +19,5 @@ listed-at-spec =
     (λ c. search needs)
     (λ c. search needs)
     returns
-    (λ c. absurd (checked-not-absent _ _ _ _ (c .before .before .before .before .pre .0 .is) (sym (c .before .before .block-at .ensures) ∙ c .enum-told .given .1)))
-    (λ c. absurd (checked-not-refused _ _ _ _ (c .before .before .before .before .pre .0 .is) (sym (c .before .before .block-at .ensures) ∙ c .enum-told2 .given .1))))
+    (λ c. absurd (checked-not-absent _ _ _ _ _ (c .before .before .before .before .pre .1 .is) (sym (c .before .before .block-at .ensures) ∙ c .enum-told .given .1)))
+    (λ c. absurd (checked-not-refused _ _ _ _ _ (c .before .before .before .before .pre .1 .is) (sym (c .before .before .block-at .ensures) ∙ c .enum-told2 .given .1))))

@@ -9,13 +9,13 @@ returns : tie.Need-returns
 returns c =
     let a = c .before .before .before .before .before .before .before .before .before .args in
     let e = c .before .before .read-root .ensures in
-    outcome-of _ _ (a .out .now) _ _ (block-tree (a .image .now) (a .b) (sym (c .before .before .before .before .before .before .is-internal .ensures) ∙ c .before .before .before .before .before .if1 .taken)) (rw part-is at (e .0), rw part-is at (e .1))
+    outcome-of _ _ (a .out .now) _ _ (block-tree (a .e) (a .image .now) (a .b) (sym (c .before .before .before .before .before .before .is-internal .ensures) ∙ c .before .before .before .before .before .if1 .taken)) (rw part-is at (e .0), rw part-is at (e .1))
 
 returns-2 : tie.Need-returns-2
 returns-2 c =
     let a = c .before .before .before .before .before .before .before .before .args in
     let e = c .before .before .read-one .ensures in
-    outcome-of _ _ (a .out .now) _ _ (block-own (a .image .now) (a .b) (sym (c .before .before .before .before .before .is-internal .ensures) ∙ c .before .before .before .before .if1 .left)) (e .0, e .1)
+    outcome-of _ _ (a .out .now) _ _ (block-own (a .e) (a .image .now) (a .b) (sym (c .before .before .before .before .before .is-internal .ensures) ∙ c .before .before .before .before .if1 .left)) (e .0, e .1)
 
 pub read-listed-spec : {M : Type 1} → statement M
 read-listed-spec =

@@ -11,7 +11,7 @@ returns : tie.Need-returns
 returns c =
     let a = c .before .before .before .before .before .args in
     let e = too-many (length (a .nodes .now)) (length (a .places .now)) (omega arith) in
-    (c .short-area .ensures ∙ e, area-left (a .image .now) (a .nodes .now) (a .places .now) _ e)
+    (c .short-area .ensures ∙ e, area-left (a .l) (a .image .now) (a .nodes .now) (a .places .now) _ e)
 
 -- fewer places than numbers
 short-area-requires-2 : tie.Need-short-area-requires-2
@@ -21,20 +21,20 @@ returns-2 : tie.Need-returns-2
 returns-2 c =
     let lent = c .before .before .before .before .before .before .args in
     let e = too-short (length (lent .nodes .now)) (length (lent .places .now)) (omega arith) (omega arith) in
-    (c .short-area2 .ensures ∙ e, area-left (lent .image .now) (lent .nodes .now) (lent .places .now) _ e)
+    (c .short-area2 .ensures ∙ e, area-left (lent .l) (lent .image .now) (lent .nodes .now) (lent .places .now) _ e)
 
 returns-3 : tie.Need-returns-3
 returns-3 c =
     let a = c .before .before .before .before .before .before .before .before .before .before .args in
     let e = taken (length (a .nodes .now)) (length (a .places .now)) (omega arith) (omega arith) in
-    (e, c .before .before .fill .ensures ∙ area-filled (a .image .now) (a .nodes .now) (a .places .now) e)
+    (e, c .before .before .fill .ensures ∙ area-filled (a .l) (a .image .now) (a .nodes .now) (a .places .now) e)
 
 -- an empty list
 returns-4 : tie.Need-returns-4
 returns-4 c =
     let a = c .before .before .before .before .before .before .args in
     let e = taken (length (a .nodes .now)) (length (a .places .now)) (omega arith) (omega arith) in
-    (e, area-kept (a .image .now) (a .nodes .now) (a .places .now) (omega arith) e)
+    (e, area-kept (a .l) (a .image .now) (a .nodes .now) (a .places .now) (omega arith) e)
 
 pub find-nodes-spec : {M : Type 1} → statement M
 find-nodes-spec =
@@ -44,7 +44,7 @@ find-nodes-spec =
     returns
     short-area-requires-2
     returns-2
-    (λ c κs. (omega arith, omega arith))
+    (λ c κs. (search needs, omega arith, omega arith))
     (λ c. search needs)
     returns-3
     returns-4)

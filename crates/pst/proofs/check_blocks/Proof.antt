@@ -1,4 +1,8 @@
-use mathlib.Core.Path.{ap}
+use mathlib.Core.Path.{sym, ap, subst, _∙_}
+use Rattle.edition.specs.declared.Layout.{Layout}
+use Rattle.edition.specs.Fair.{FairLayout}
+use Rattle.header.proofs.EditionLaws.{fair-blocks}
+use Rattle.tree.specs.Tree.{treeFits}
 use Rattle.pst.specs.Meaning.{verdictMeans}
 use Rattle.pst.specs.Outcomes.{blocksOutcome}
 use borrow.Author.Needs.{needs}
@@ -7,7 +11,9 @@ use Rattle.pst.proofs.check_blocks.Tie as tie
 
 returns : tie.Need-returns
 unfolding blocksOutcome
-returns c = ap verdictMeans (c .check-blocks .ensures)
+returns c =
+    let a = c .before .before .before .args in
+    ap verdictMeans (c .check-tree .ensures ∙ ap (λ (l : Layout). treeFits l (a .image .now)) (c .before .blocks-of .ensures))
 
 pub check-blocks-spec : {M : Type 1} → statement M
-check-blocks-spec = tie.close (tie.spec (λ c κs. search needs) returns)
+check-blocks-spec = tie.close (tie.spec (λ c κs. search needs) (λ c κs. subst FairLayout (sym (c .blocks-of .ensures)) (fair-blocks _)) returns)

@@ -1,4 +1,8 @@
-use mathlib.Core.Path.{ap}
+use mathlib.Core.Path.{sym, ap, subst, _∙_}
+use Rattle.edition.specs.declared.Layout.{Layout}
+use Rattle.edition.specs.Fair.{FairLayout}
+use Rattle.header.proofs.EditionLaws.{fair-blocks}
+use Rattle.tree.specs.Answers.{blockOf}
 use Rattle.pst.specs.Meaning.{blockMeans}
 use Rattle.pst.specs.Outcomes.{blockOutcome}
 use borrow.Author.Needs.{needs}
@@ -7,7 +11,9 @@ use Rattle.pst.proofs.find_block.Tie as tie
 
 returns : tie.Need-returns
 unfolding blockOutcome
-returns c = ap blockMeans (c .find-block .ensures)
+returns c =
+    let a = c .before .before .before .args in
+    ap blockMeans (c .find-block .ensures ∙ ap (λ (l : Layout). blockOf l (a .image .now) (a .block)) (c .before .blocks-of .ensures))
 
 pub find-block-spec : {M : Type 1} → statement M
-find-block-spec = tie.close (tie.spec (λ c κs. search needs) returns)
+find-block-spec = tie.close (tie.spec (λ c κs. search needs) (λ c κs. subst FairLayout (sym (c .blocks-of .ensures)) (fair-blocks _)) returns)

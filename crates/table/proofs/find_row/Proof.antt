@@ -1,16 +1,17 @@
-use mathlib.Core.Path.{sym, _∙_}
-use Rattle.table.proofs.IndexLaws.{index-exactly, row-refused, row-on}
+use mathlib.Core.Path.{_≡_, ap, _∙_}
+use native.Mathlib.Omega.{arith}
+use Rattle.heaptree.specs.declared.HeapTree.{HeapTree}
+use Rattle.table.specs.RowIndex.{rowIndex, rowOf}
 use borrow.Author.Needs.{needs}
 use Rattle.table.proofs.find_row.Statement.{statement}
 use Rattle.table.proofs.find_row.Tie as tie
 
+returns : tie.Need-returns
+returns c =
+    let a = c .before .before .before .args in
+    let index : c .before .row-index .result ≡ rowIndex = c .before .row-index .ensures in
+    c .find-row-in .ensures ∙ ap (λ (tree : HeapTree). rowOf tree (a .block .now) (a .id)) index
+
 pub find-row-spec : {M : Type 1} → statement M
 find-row-spec =
-    tie.close
-    (tie.spec
-    (λ c κs. search needs)
-    (λ c. search needs)
-    (λ c. search needs)
-    (λ c κs. index-exactly _ .0 (sym (c .before .before .test-index .ensures) ∙ c .enum-told .given .1))
-    (λ c. sym (row-refused _ _ _ (sym (c .before .before .before .test-index .ensures) ∙ c .before .verdict .given .1)))
-    (λ c. c .find-in-index .ensures ∙ sym (row-on _ _ (sym (c .before .before .before .test-index .ensures) ∙ c .before .enum-told .given .1))))
+    tie.close (tie.spec (λ c κs. search needs) (λ c κs. rw (c .row-index .ensures) (omega arith, omega arith, omega arith)) returns)

@@ -1,7 +1,5 @@
 use Prim.Native.Nat.{ℕ}
 use mathlib.Core.Path.{ap, _∙_}
-use Rattle.page.specs.Layout.{nbt}
-use Rattle.page.proofs.Fairs.{fair-nbt}
 use Rattle.tree.specs.Answers.{shown, asNode, nodeOf}
 use Rattle.tree.specs.Ways.{atEnd}
 use borrow.Author.Needs.{needs}
@@ -11,20 +9,13 @@ use Rattle.tree.proofs.node_at.Tie as tie
 returns : tie.Need-returns
 unfolding nodeOf
 returns c =
-    let a = c .before .before .before .before .before .args in
-    let l = c .before .before .before .nodes in
+    let start = c .before .before .before .before in
+    let a = start .args in
     c .as-node .ensures
     ∙ ap asNode
     (c .before .end-of .ensures
-    ∙ ap (λ (k : ℕ). shown (l .result) (atEnd (l .result) (a .image .now) (a .way) k)) (c .before .before .compared .ensures)
-    ∙ rw (l .ensures) (ap (shown nbt) (c .before .before .before .before .before .pre .1)))
+    ∙ ap (λ (k : ℕ). shown (a .l) (atEnd (a .l) (a .image .now) (a .way) k)) (c .before .before .compared .ensures)
+    ∙ ap (shown (a .l)) (start .pre .2))
 
 pub node-at-spec : {M : Type 1} → statement M
-node-at-spec =
-    tie.close
-    (tie.spec
-    (λ c κs. search needs)
-    (λ c κs. rw (c .nodes .ensures) fair-nbt)
-    (λ c κs. rw (c .before .nodes .ensures) (fair-nbt, c .before .before .before .pre .0))
-    (λ c κs. search needs)
-    returns)
+node-at-spec = tie.close (tie.spec (λ c κs. search needs) (λ c κs. search needs) (λ c κs. search needs) returns)
