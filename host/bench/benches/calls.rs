@@ -8,8 +8,8 @@ use std::time::Duration;
 fn calls(criterion: &mut Criterion) {
     for mut case in cases() {
         let mut group = criterion.benchmark_group(format!("{}, {}", case.call, case.input));
-        group.bench_function("proved", |bencher| bencher.iter(&mut case.proved));
-        group.bench_function("model", |bencher| bencher.iter(&mut case.model));
+        group.bench_function("proved", |bencher| bencher.iter(&mut case.left));
+        group.bench_function("model", |bencher| bencher.iter(&mut case.right));
         if let Some(singles) = &mut case.singles {
             group.bench_function("single calls", |bencher| bencher.iter(&mut *singles));
         }

@@ -1,25 +1,24 @@
 //! The checksum in three ways. The plain one, eight bytes at a time with the eight tables of 003, 5.3, is
 //! the model's; the one with a single table is here.
 
-use crate::{bytes, Case};
-use rekwonuda_sys as proved;
+use crate::{bytes, Case, Sides};
 
 /// The two parts of the header's second checksum (471 and 45 bytes), all of it (516), a page (496); then
 /// as long as blocks, and longer than any of them.
 const LENGTHS: [usize; 7] = [45, 471, 496, 516, 4096, 8192, 1 << 20];
 
-pub fn checksums() -> Vec<Case> {
+pub fn checksums(sides: Sides) -> Vec<Case> {
+    let case = |length| case(sides, length);
     LENGTHS.into_iter().map(case).collect()
 }
 
-fn case(length: usize) -> Case {
-    let (left, right, single) = (bytes(length), bytes(length), bytes(length));
-    Case::new(
-        "checksum",
-        format!("{length} bytes"),
-        move || proved::checksum(&left),
-        move || model::checksum(&right).into(),
-    )
+fn case(sides: Sides, length: usize) -> Case {
+    let single = bytes(length);
+    let input = format!("{length} bytes");
+    Case::new("checksum", input, sides, |calls| {
+        let bytes = bytes(length);
+        move || (calls.checksum)(&bytes)
+    })
     .with_one_table(move || one_table(&single).into())
 }
 

@@ -6,8 +6,11 @@
 //! `ratios [WORD]` takes only the calls whose name has that word in it. The ratio is taken in each
 //! round, right after one another, so that a busy machine slows both; its median is printed, and
 //! between which ratios the middle half of the rounds lay. All tables are of the same rounds.
+//!
+//! `ratios --former [WORD]` times the proved library beside a former one instead, whose archive the
+//! environment variable `REKWONUDA_FORMER_ARCHIVE` named when this was built.
 
-use bench::{cases, Case, Timed};
+use bench::{cases, former_cases, Case, Timed};
 use std::env;
 use std::hint::black_box;
 use std::time::{Duration, Instant};
@@ -16,17 +19,28 @@ const ROUNDS: usize = 61;
 const ROUND: Duration = Duration::from_millis(5);
 
 fn main() {
-    let word = env::args().nth(1).unwrap_or_default();
+    let mut words = env::args().skip(1).peekable();
+    let former = words.next_if(|word| word == "--former").is_some();
+    let word = words.next().unwrap_or_default();
+    if former {
+        print_all(former_cases(), &word, ("now", "before"));
+    } else {
+        print_all(cases(), &word, ("proved", "model")).print();
+    }
+}
+
+/// Prints the table of both sides, and answers the rows of those behind it.
+fn print_all(cases: Vec<Case>, word: &str, (left, right): (&str, &str)) -> Further {
     let mut further = Further::default();
-    print_head("proved", &["model"]);
-    for mut case in cases() {
-        if case.call.contains(&word) {
+    print_head(left, &[right]);
+    for mut case in cases {
+        if case.call.contains(word) {
             let times = measure(&mut case);
-            println!("{}", row(&case, &times.proved, &[&times.model]));
+            println!("{}", row(&case, &times.left, &[&times.right]));
             further.add(&case, &times);
         }
     }
-    further.print();
+    further
 }
 
 /// The rows of the tables behind the first.
@@ -40,15 +54,15 @@ struct Further {
 impl Further {
     fn add(&mut self, case: &Case, times: &Times) {
         if let Some(singles) = &times.singles {
-            let row = row(case, &times.proved, &[singles]);
+            let row = row(case, &times.left, &[singles]);
             match case.call {
                 "read_row" => self.cells.push(row),
                 _ => self.lists.push(row),
             }
         }
         if let Some(one_table) = &times.one_table {
-            let others = [&times.model[..], one_table];
-            self.checksums.push(row(case, &times.proved, &others));
+            let others = [&times.right[..], one_table];
+            self.checksums.push(row(case, &times.left, &others));
         }
     }
 
@@ -100,20 +114,20 @@ fn beside(left: &[f64], right: &[f64]) -> String {
 
 /// The time of one call in each round, in nanoseconds.
 struct Times {
-    proved: Vec<f64>,
-    model: Vec<f64>,
+    left: Vec<f64>,
+    right: Vec<f64>,
     singles: Option<Vec<f64>>,
     one_table: Option<Vec<f64>>,
 }
 
 fn measure(case: &mut Case) -> Times {
-    let mut calls = vec![&mut case.proved, &mut case.model];
+    let mut calls = vec![&mut case.left, &mut case.right];
     calls.extend(case.singles.as_mut());
     calls.extend(case.one_table.as_mut());
     let mut times = alternate(&mut calls).into_iter();
     Times {
-        proved: times.next().unwrap_or_default(),
-        model: times.next().unwrap_or_default(),
+        left: times.next().unwrap_or_default(),
+        right: times.next().unwrap_or_default(),
         singles: case.singles.as_ref().and_then(|_| times.next()),
         one_table: case.one_table.as_ref().and_then(|_| times.next()),
     }

@@ -1,12 +1,13 @@
 //! Calls on tables: one of the size that folders have, and wide ones.
 
-use crate::{sum, Case, SEED};
+use crate::calls::FIND_ROW_32;
+use crate::{sum, Case, Sides, SEED};
 use model::build::tables::{
-    place_table, real_size, usual_layout, worked_example, GivenCell, GivenTable, Layout,
-    PlacedTable, RowsPlace, ROW_ID,
+    place_table, real_size, real_size_of, usual_layout, worked_example, GivenCell, GivenTable,
+    Layout, PlacedTable, RowsPlace, ROW_ID,
 };
 use model::random::Random;
-use model::Column;
+use model::{Column, Edition};
 use rekwonuda_sys::{self as proved, CellAnswer};
 use std::sync::Arc;
 
@@ -19,29 +20,37 @@ const LAST: u32 = 0x680C_000B;
 const HEAD: usize = 22;
 const COLUMN: usize = 8;
 
-pub fn tables() -> Vec<Case> {
+pub fn tables(sides: Sides) -> Vec<Case> {
     let real = Arc::new(real_size());
     let usual = "30 columns, 100 rows";
-    let mut cases = vec![table(usual, &real), count_rows(usual, &real)];
+    let mut cases = vec![table(sides, usual, &real), count_rows(sides, usual, &real)];
     for (about, tag) in [
         ("first column, texts", TEXT),
         ("numbers of 8 bytes", TIME),
         ("numbers of 4 bytes", ROW_ID),
         ("last column, numbers of 1 byte", LAST),
     ] {
-        cases.push(cell(&format!("{usual}; {about}"), &real, &[tag]));
+        cases.push(cell(sides, format!("{usual}; {about}"), &real, &[tag]));
     }
-    cases.push(cell(&format!("{usual}; all columns"), &real, &tags(&real)));
-    cases.push(find_row(usual, &real));
-    cases.push(read_row(usual, &real));
+    let all = format!("{usual}; all columns");
+    cases.push(cell(sides, all, &real, &tags(&real)));
+    let find = sides.map(|calls| calls.find_row);
+    cases.push(find_row(find, "find_row", usual, &real));
+    cases.push(read_row(sides, usual, &real));
     for (about, placed) in others(&real) {
         let placed = Arc::new(placed);
-        cases.push(table(about, &placed));
+        cases.push(table(sides, about, &placed));
         let all = format!("{about}; all columns");
-        cases.push(cell(&all, &placed, &tags(&placed)));
-        cases.push(read_row(about, &placed));
+        cases.push(cell(sides, all, &placed, &tags(&placed)));
+        cases.push(read_row(sides, about, &placed));
     }
     cases
+}
+
+/// The one call on tables that is for 32-bit files alone.
+pub fn row_index_of_32_bits() -> Case {
+    let real = Arc::new(real_size_of(Edition::Bits32));
+    find_row(FIND_ROW_32, "find_row32", "30 columns, 100 rows", &real)
 }
 
 /// A small one from 003; one whose heap has hardly an item; as many columns as a table can have, also in
@@ -114,24 +123,18 @@ fn tags(placed: &PlacedTable) -> Vec<u32> {
     placed.columns.iter().map(|column| column.tag).collect()
 }
 
-fn table(input: &str, placed: &Arc<PlacedTable>) -> Case {
-    let (left, right) = (Arc::clone(placed), Arc::clone(placed));
-    Case::new(
-        "table",
-        input,
-        move || proved::table(&left.block).row_size,
-        move || model::table(&right.block).map_or(0, |table| table.row_size.into()),
-    )
+fn table(sides: Sides, input: &str, placed: &Arc<PlacedTable>) -> Case {
+    Case::new("table", input, sides, |calls| {
+        let placed = Arc::clone(placed);
+        move || (calls.table)(&placed.block)
+    })
 }
 
-fn count_rows(input: &str, placed: &Arc<PlacedTable>) -> Case {
-    let (left, right) = (Arc::clone(placed), Arc::clone(placed));
-    Case::new(
-        "count_rows",
-        input,
-        move || proved::count_rows(&left.block, &left.rows).rows,
-        move || model::count_rows(&right.block, &right.rows).map_or(0, |rows| rows as u64),
-    )
+fn count_rows(sides: Sides, input: &str, placed: &Arc<PlacedTable>) -> Case {
+    Case::new("count_rows", input, sides, |calls| {
+        let placed = Arc::clone(placed);
+        move || (calls.count_rows)(&placed.block, &placed.rows)
+    })
 }
 
 /// The rows and tags of a table in turn, so that no two calls in a row are alike.
@@ -157,78 +160,53 @@ impl Turns {
     }
 }
 
-fn cell(input: &str, placed: &Arc<PlacedTable>, tags: &[u32]) -> Case {
-    let (left, right) = (Arc::clone(placed), Arc::clone(placed));
-    let mut turns = Turns::new(placed, tags);
-    let mut also_turns = Turns::new(placed, tags);
-    Case::new(
-        "cell",
-        input,
+fn cell(sides: Sides, input: String, placed: &Arc<PlacedTable>, tags: &[u32]) -> Case {
+    Case::new("cell", input, sides, |calls| {
+        let (placed, mut turns) = (Arc::clone(placed), Turns::new(placed, tags));
         move || {
             let (row, tag) = turns.next();
-            let cell = proved::cell(&left.block, &left.rows, row, tag);
-            assert_eq!(cell.found, 1);
-            cell.value
-        },
-        move || {
-            let (row, tag) = also_turns.next();
-            let cell = model::cell(&right.block, &right.rows, row, tag);
-            value(cell.expect("a cell").expect("it is there"))
-        },
-    )
+            let cell = (calls.cell)(&placed.block, &placed.rows, row, tag);
+            cell.expect("it is there")
+        }
+    })
 }
 
-fn value(cell: model::Cell) -> u64 {
-    match cell {
-        model::Cell::Number(number) => number,
-        model::Cell::Item(number) | model::Cell::Subnode(number) => u64::from(number),
-        model::Cell::Empty | model::Cell::Missing => 0,
-    }
-}
-
-fn find_row(input: &str, placed: &Arc<PlacedTable>) -> Case {
-    let (left, right) = (Arc::clone(placed), Arc::clone(placed));
+fn find_row(
+    find: [fn(&[u8], u32) -> u64; 2],
+    call: &'static str,
+    input: &str,
+    placed: &Arc<PlacedTable>,
+) -> Case {
     let ids: Vec<_> = placed.row_index.keys().copied().collect();
     let input = format!("{input}; {} ids", ids.len());
-    let mut turns = Turns::new(placed, &ids);
-    let mut also_turns = Turns::new(placed, &ids);
-    Case::new(
-        "find_row",
-        input,
-        move || proved::find_row(&left.block, turns.next().1).row,
-        move || {
-            let row = model::find_row(&right.block, also_turns.next().1);
-            row.ok().flatten().map_or(0, u64::from)
-        },
-    )
+    let work = |find: fn(&[u8], u32) -> u64| {
+        let (placed, mut turns) = (Arc::clone(placed), Turns::new(placed, &ids));
+        move || find(&placed.block, turns.next().1)
+    };
+    Case::of(call, input, find.map(work))
 }
 
-/// A row in one call, both ways, and by a call for each cell; all three fill an area of places.
-fn read_row(input: &str, placed: &Arc<PlacedTable>) -> Case {
-    let [left, right, single] = [(); 3].map(|()| Arc::clone(placed));
-    let [mut turns, mut also_turns, mut single_turns] =
-        [(); 3].map(|()| Turns::new(placed, &tags(placed)));
+/// A row in one call, on both sides, and by a call for each cell; all three fill an area of places.
+fn read_row(sides: Sides, input: &str, placed: &Arc<PlacedTable>) -> Case {
     let columns = tags(placed);
+    let (single, mut single_turns) = (Arc::clone(placed), Turns::new(placed, &columns));
     // By the time the single calls are held to it, the one call has had its first turn.
     single_turns.next();
-    let mut cells = vec![[0; CellAnswer::WORDS]; columns.len()];
-    let (mut also_cells, mut single_cells) = (cells.clone(), cells.clone());
-    Case::new(
-        "read_row",
-        input,
+    let mut single_cells = vec![[0; CellAnswer::WORDS]; columns.len()];
+    Case::new("read_row", input, sides, |calls| {
+        let (placed, mut turns) = (Arc::clone(placed), Turns::new(placed, &columns));
+        let mut area = vec![0; CellAnswer::WORDS * columns.len()];
         move || {
-            let (area, row) = (cells.as_flattened_mut(), turns.next().0);
-            let answer = proved::read_row(&left.block, &left.rows, row, area);
-            assert_eq!(answer.found, 1);
-            sum(area)
-        },
-        move || {
-            let (area, row) = (also_cells.as_flattened_mut(), also_turns.next().0);
-            let answer = model::read_row(&right.block, &right.rows, row, area);
-            assert!(answer.is_ok_and(|cells| cells.is_some()));
-            sum(area)
-        },
-    )
+            let row = turns.next().0;
+            assert!((calls.read_row)(
+                &placed.block,
+                &placed.rows,
+                row,
+                &mut area
+            ));
+            sum(&area)
+        }
+    })
     .with_singles(move || {
         let row = single_turns.next().0;
         for (place, tag) in single_cells.iter_mut().zip(&columns) {

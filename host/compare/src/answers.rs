@@ -24,13 +24,14 @@ pub fn plain(answer: Answer<()>) -> [u64; 3] {
     fields(answer, |(), _| {})
 }
 
-pub fn header(answer: Answer<Header>) -> [u64; 9] {
+pub fn header(answer: Answer<Header>) -> [u64; 10] {
     fields(answer, |header, rest| {
         let Header {
             method,
             nodes,
             blocks,
             end,
+            edition,
         } = header;
         let method = u64::from(method);
         rest.copy_from_slice(&[
@@ -40,6 +41,7 @@ pub fn header(answer: Answer<Header>) -> [u64; 9] {
             blocks.number,
             blocks.offset,
             end,
+            edition.bits(),
         ]);
     })
 }

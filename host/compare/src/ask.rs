@@ -5,6 +5,7 @@ use crate::buffers::Buffers;
 use crate::checksums::Part;
 use crate::lists::WORDS;
 use crate::tables::CELL_WORDS;
+use model::page::Tree;
 use rekwonuda_sys as proved;
 
 #[derive(Clone, Copy, PartialEq, Eq, PartialOrd, Ord, Debug)]
@@ -31,10 +32,12 @@ pub enum Call {
     CountRows,
     Cell,
     FindRow,
+    FindRow32,
     ReadRow,
     Checksum,
     Signature,
     Room,
+    Room32,
 }
 
 /// The calls on an image; those with a buffer are asked more often.
@@ -78,6 +81,9 @@ pub const ON_TABLE: &[Call] = &[
     Call::FindRow,
     Call::FindRow,
     Call::FindRow,
+    Call::FindRow32,
+    Call::FindRow32,
+    Call::FindRow32,
     Call::ReadRow,
     Call::ReadRow,
     Call::ReadRow,
@@ -91,6 +97,7 @@ pub const ON_BYTES: &[Call] = &[
     Call::Checksum,
     Call::Signature,
     Call::Room,
+    Call::Room32,
 ];
 
 impl Call {
@@ -111,6 +118,27 @@ impl Call {
         ON_IMAGE.contains(&self)
     }
 
+    /// Whether the call reads the node tree, or the block tree, before all else behind the header.
+    pub fn first_tree(self) -> Option<Tree> {
+        match self {
+            Call::CheckBlocks | Call::NextBlock => Some(Tree::Blocks),
+            _ if self.seeks_block() => Some(Tree::Blocks),
+            Call::CheckNodes => Some(Tree::Nodes),
+            _ if self.takes_node() => Some(Tree::Nodes),
+            _ => None,
+        }
+    }
+
+    /// Whether the call seeks a row in a row index.
+    pub fn seeks_row(self) -> bool {
+        matches!(self, Call::FindRow | Call::FindRow32)
+    }
+
+    /// Whether the call reads a heap.
+    pub fn reads_heap(self) -> bool {
+        ON_HEAP.contains(&self) || self.reads_table()
+    }
+
     /// Whether the call reads a table.
     pub fn reads_table(self) -> bool {
         (Call::Table..=Call::ReadRow).contains(&self)
@@ -118,10 +146,8 @@ impl Call {
 
     /// Whether the answer's fourth field says found or absent.
     pub fn may_be_absent(self) -> bool {
-        let in_table = matches!(
-            self,
-            Call::Column | Call::Cell | Call::FindRow | Call::ReadRow
-        );
+        let in_table =
+            matches!(self, Call::Column | Call::Cell | Call::ReadRow) || self.seeks_row();
         let in_image = matches!(self, Call::FindNode | Call::FindBlock | Call::ReadNode);
         let next = matches!(self, Call::NextNode | Call::NextBlock);
         in_image || next || in_table || self == Call::FindProperty
@@ -141,7 +167,7 @@ impl Call {
             Call::FindProperty => vec![18, 19, 20],
             Call::ReadRow => vec![17, 18, 19, 23],
             _ if self.reads_table() => vec![18, 19, 23],
-            Call::Checksum | Call::Signature | Call::Room => Vec::new(),
+            Call::Checksum | Call::Signature | Call::Room | Call::Room32 => Vec::new(),
             _ => (1..=11).chain([21]).collect(),
         }
     }
@@ -371,6 +397,7 @@ fn look_in_table(ask: &Ask, lent: Lent, own: Lent) -> Answers {
         Call::Table => put_to_both!(table as table, block, own_block),
         Call::Column => put_to_both!(column as column, block, own_block, number as u32),
         Call::FindRow => put_to_both!(find_row as row, block, own_block, number as u32),
+        Call::FindRow32 => put_to_both!(find_row32 as row, block, own_block, number as u32),
         Call::CountRows => both(
             proved::count_rows(block, lent.rows).fields(),
             answers::length(model::count_rows(own_block, own.rows)),
@@ -399,6 +426,7 @@ fn look(ask: &Ask, lent: &[u8], own: &[u8]) -> Answers {
         Call::FindProperty => put_to_both!(find_property as property, lent, own, number as u16),
         Call::Signature => put_to_both!(signature, ask.offset, ask.offset, number),
         Call::Room => put_to_both!(room, number as u32, number as u32),
+        Call::Room32 => put_to_both!(room32, number as u32, number as u32),
         _ => put_to_both!(checksum, ask.part.of(lent), ask.part.of(own)),
     }
 }

@@ -4,6 +4,7 @@
 use crate::ask::{Ask, Call, Lent, ON_IMAGE};
 use crate::lists::WORDS;
 use model::build::seal::set_end;
+use model::edition::Edition;
 use model::random::Random;
 use std::collections::BTreeSet;
 use std::fmt;
@@ -11,10 +12,16 @@ use std::fmt;
 /// Everything up to here is the header, whatever the end-of-file number is.
 const HEADER: usize = 564;
 
-/// Where the end-of-file number stands, and the first offset of a page or block: the model's, said here
-/// once more.
-const NUMBER: usize = 184;
+/// The first offset of a page or block: the model's, said here once more.
 const FIRST_OFFSET: usize = 0x4400;
+
+/// Where the end-of-file number stands, and how many bytes it has: the model's, said here once more.
+fn number(edition: Edition) -> (usize, usize) {
+    match edition {
+        Edition::Bits64 => (184, 8),
+        Edition::Bits32 => (168, 4),
+    }
+}
 
 /// Fewer bytes than this are hung on behind an image.
 const MOST_HUNG_ON: usize = 1500;
@@ -23,7 +30,7 @@ const MOST_HUNG_ON: usize = 1500;
 /// itself: if the header let the file end with the image, the call would be answered.
 #[derive(Clone, Copy, PartialEq, Eq, PartialOrd, Ord, Debug)]
 pub enum Met {
-    /// 1 at 184: the number is above the image's length.
+    /// 1 at 184, or at 168 in a file of 32 bits: the number is above the image's length.
     TooHigh,
     /// The header is accepted, and its number is 0.
     Zero,
@@ -44,10 +51,13 @@ pub enum Met {
 }
 
 impl Met {
-    /// What a run has to meet, call by call.
-    pub fn all() -> impl Iterator<Item = (Call, Met)> {
+    /// What a run has to meet, call by call and in each edition.
+    pub fn all() -> impl Iterator<Item = (Call, Edition, Met)> {
         let calls: BTreeSet<_> = ON_IMAGE.iter().copied().collect();
-        let met_by = |call| Met::of_call(call).iter().map(move |&met| (call, met));
+        let met_by = |call| {
+            let met = Met::of_call(call).iter();
+            met.flat_map(move |&met| Edition::BOTH.map(|edition| (call, edition, met)))
+        };
         calls.into_iter().flat_map(met_by)
     }
 
@@ -72,15 +82,21 @@ impl Met {
     /// What an answer to a call on an image says of the end; of a list each place in its area.
     pub fn in_call(ask: &Ask, lent: Lent, answer: &[u64], area: &[u64]) -> Vec<Met> {
         let around = Around::new(lent.bytes);
+        let (place, _) = number(Edition::of(lent.bytes));
+        let in_answer = |call, number, answer: &[u64]| {
+            if answer[..2] == [1, place as u64] {
+                return vec![Met::TooHigh];
+            }
+            in_answer(call, number, answer, around.as_ref())
+        };
         if ask.call != Call::FindNodes {
-            return in_answer(ask.call, ask.number, answer, around.as_ref());
+            return in_answer(ask.call, ask.number, answer);
         }
         if answer[0] != 0 {
             return Vec::new();
         }
         let places = lent.nodes.iter().zip(area.chunks_exact(WORDS));
-        let met = places
-            .flat_map(|(&node, place)| in_answer(Call::FindNode, node, place, around.as_ref()));
+        let met = places.flat_map(|(&node, place)| in_answer(Call::FindNode, node, place));
         met.collect()
     }
 }
@@ -113,9 +129,6 @@ impl Around {
 }
 
 fn in_answer(call: Call, number: u64, answer: &[u64], around: Option<&Around>) -> Vec<Met> {
-    if answer[..2] == [1, NUMBER as u64] {
-        return vec![Met::TooHigh];
-    }
     let Some(around) = around else {
         return Vec::new();
     };
@@ -190,7 +203,9 @@ pub fn other_behind(image: &[u8], random: &mut Random) -> Option<Vec<u8>> {
     if image.len() < HEADER {
         return None;
     }
-    let field = image[NUMBER..NUMBER + 8].try_into().ok()?;
+    let (place, width) = number(Edition::of(image));
+    let mut field = [0; 8];
+    field[..width].copy_from_slice(&image[place..place + width]);
     let end = usize::try_from(u64::from_le_bytes(field)).ok()?;
     let (kept, hanging) = image.split_at_checked(end.max(HEADER))?;
     let length = random.between(1, MOST_HUNG_ON);

@@ -1,8 +1,10 @@
 //! In which page and at which entry a call met keys at fault, and whether the page's keys break the
 //! other rule as well.
 
-use model::header::{file, Reference};
-use model::page::{Page, Range, Sought, Tree};
+use model::edition::Edition;
+use model::header::file;
+use model::page::{Page, Sought, Tree};
+use model::tree::root_of;
 use model::Refusal;
 use std::fmt;
 
@@ -39,6 +41,7 @@ pub enum Other {
 
 #[derive(Clone, Copy, PartialEq, Eq, PartialOrd, Ord, Debug)]
 pub struct KeyFault {
+    pub edition: Edition,
     pub tree: Tree,
     pub role: Role,
     pub rule: Rule,
@@ -68,11 +71,12 @@ impl KeyFault {
     pub fn of(image: &[u8], refusal: Refusal) -> Option<Self> {
         let rule = Rule::of(refusal.number)?;
         let header = model::header(image).ok()?;
-        let trees = [(Tree::Nodes, header.nodes), (Tree::Blocks, header.blocks)];
-        trees.into_iter().find_map(|(tree, root)| {
-            let (sought, page) = refused_page(file(image), tree, from_root(root), refusal)?;
+        [Tree::Nodes, Tree::Blocks].into_iter().find_map(|tree| {
+            let root = root_of(&header, tree);
+            let (sought, page) = refused_page(file(image), tree, root, refusal)?;
             let at = refusal.more as usize;
             Some(KeyFault {
+                edition: header.edition,
                 tree,
                 role: role(&sought, &page),
                 rule,
@@ -86,7 +90,8 @@ impl KeyFault {
         let kinds = [Rule::Order, Rule::Range].into_iter().flat_map(entries);
         kinds
             .flat_map(|(rule, position, other)| {
-                pages().map(move |(tree, role)| KeyFault {
+                pages().map(move |(edition, tree, role)| KeyFault {
+                    edition,
                     tree,
                     role,
                     rule,
@@ -115,12 +120,12 @@ impl KeyFault {
     }
 }
 
-fn pages() -> impl Iterator<Item = (Tree, Role)> {
+fn pages() -> impl Iterator<Item = (Edition, Tree, Role)> {
     let roles = [Role::Root, Role::Index, Role::Leaf];
-    let trees = [Tree::Nodes, Tree::Blocks];
-    trees
+    let trees = Edition::BOTH
         .into_iter()
-        .flat_map(move |tree| roles.map(|role| (tree, role)))
+        .flat_map(|edition| [Tree::Nodes, Tree::Blocks].map(|tree| (edition, tree)));
+    trees.flat_map(move |(edition, tree)| roles.map(|role| (edition, tree, role)))
 }
 
 fn entries(rule: Rule) -> impl Iterator<Item = (Rule, Position, Other)> {
@@ -129,14 +134,6 @@ fn entries(rule: Rule) -> impl Iterator<Item = (Rule, Position, Other)> {
     positions
         .into_iter()
         .flat_map(move |position| others.map(|other| (rule, position, other)))
-}
-
-fn from_root(reference: Reference) -> Sought {
-    Sought {
-        reference,
-        level: None,
-        range: Range::ALL,
-    }
 }
 
 /// The page that is refused just so. One page may be reached twice, with different ranges.

@@ -5,6 +5,7 @@ pub mod answers;
 pub mod ask;
 pub mod buffers;
 pub mod checksums;
+pub mod editions;
 pub mod end;
 pub mod keys;
 pub mod lists;

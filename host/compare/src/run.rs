@@ -9,6 +9,7 @@ use crate::end::other_behind;
 use crate::question::{question, Question};
 use crate::subject::{images_for_long_lists, subjects, widest_image, Subject};
 use crate::tally::Tally;
+use model::edition::Edition;
 use model::random::Random;
 use std::fmt::Write;
 use std::path::PathBuf;
@@ -62,9 +63,9 @@ impl Run {
     /// Makes at least so many calls, and hears of the number made now and then.
     pub fn make(&mut self, calls: u64, mut progress: impl FnMut(u64)) {
         let mut seeds = Random::new(self.seed);
-        let widest = [widest_image(0), widest_image(1), widest_image(2)];
-        for subject in &widest {
-            self.ask_all(self.seed, subject);
+        for at in 0..6 {
+            let edition = Edition::BOTH[at as usize % 2];
+            self.ask_all(self.seed, &widest_image(edition, at / 2));
         }
         for (at, subject) in (0..).zip(&images_for_long_lists(self.seed)) {
             self.ask_all(self.seed.wrapping_add(at), subject);
@@ -120,6 +121,10 @@ impl Run {
         if question.call.reads_image() {
             let area = self.buffers.area();
             self.tally.add_end(question, lent, answers, area);
+            self.tally.add_edition(question, lent, answers, area);
+        }
+        if question.call.reads_heap() {
+            self.tally.add_heap(question.call, lent.bytes, answers);
         }
         if question.call.reads_table() {
             let area = self.buffers.area();

@@ -5,11 +5,15 @@ mod tables;
 
 use crate::ask::{Call, ON_BYTES, ON_HEAP, ON_IMAGE};
 use crate::tables::draw::Known;
-use model::build::heaps::{bare_heap, empty_items, property_context, HeapPlan, PlacedHeap};
+use crate::tables::LENGTHS;
+use model::build::heaps::{
+    bare_heap, context_of_length, empty_items, property_context, HeapPlan, PlacedHeap,
+};
 use model::build::seal::{seal_header, set_end};
-use model::build::{build, build_small, build_small_loose, Built, Plan, MOST_SMALL};
+use model::build::{build, build_small_of, Built, Plan, MOST_SMALL};
 use model::damage::heap::{spoil_heap, ALL};
-use model::damage::{spoil, spoil_again, Damage, BLOCK, END, HEADER, KEYS, PAGE, WHOLE};
+use model::damage::{spoil, spoil_again, Damage, BLOCK, EDITION, END, HEADER, KEYS, PAGE, WHOLE};
+use model::edition::Edition;
 use model::random::Random;
 
 pub struct Subject {
@@ -50,10 +54,12 @@ impl Subject {
 /// Some subjects that belong together, made from one seed.
 pub fn subjects(seed: u64) -> Vec<Subject> {
     let mut random = Random::new(seed);
-    match random.below(78) {
+    match random.below(86) {
         0..=31 => built_images(&mut random),
-        32..=34 => wide_images(&mut random),
+        32..=34 | 78..=80 => wide_images(&mut random),
         75..=77 => images_with_other_ends(&mut random),
+        81..=83 => images_about_most(&mut random),
+        84..=85 => images_with_other_headers(&mut random),
         35..=38 => vec![random_image(&mut random)],
         39..=54 => heaps(&mut random),
         55..=56 => vec![random_heap(&mut random)],
@@ -62,13 +68,18 @@ pub fn subjects(seed: u64) -> Vec<Subject> {
     }
 }
 
+/// One edition as often as the other.
+fn edition(random: &mut Random) -> Edition {
+    random.one_of(Edition::BOTH)
+}
+
+fn small_image(random: &mut Random, loose_bit_0: bool) -> Built {
+    build_small_of(edition(random), random.number(), loose_bit_0)
+}
+
 fn built_images(random: &mut Random) -> Vec<Subject> {
-    let seed = random.number();
-    let built = if random.one_in(2) {
-        build_small_loose(seed)
-    } else {
-        build_small(seed)
-    };
+    let loose_bit_0 = random.one_in(2);
+    let built = small_image(random, loose_bit_0);
     let whole = Subject {
         nodes: built.node_numbers(),
         blocks: built.block_numbers(),
@@ -83,7 +94,8 @@ fn built_images(random: &mut Random) -> Vec<Subject> {
 
 /// Keys at fault in images that have more index pages than small ones, and more entries in each.
 fn wide_images(random: &mut Random) -> Vec<Subject> {
-    let built = wide_image(random);
+    let edition = edition(random);
+    let built = wide_image(random, edition);
     let damaged = (0..12).map(|_| {
         let damage = random.pick(KEYS).copied().unwrap_or(KEYS[0]);
         damaged_image(&built, (damage, true), random)
@@ -93,7 +105,7 @@ fn wide_images(random: &mut Random) -> Vec<Subject> {
 
 /// Pages and blocks at the end of the file, over it and behind it, in images that are sound otherwise.
 fn images_with_other_ends(random: &mut Random) -> Vec<Subject> {
-    let built = build_small_loose(random.number());
+    let built = small_image(random, true);
     let damaged = (0..12).map(|_| {
         let damage = random.one_of([
             Damage::PageBehind,
@@ -106,8 +118,44 @@ fn images_with_other_ends(random: &mut Random) -> Vec<Subject> {
     damaged.collect()
 }
 
-fn wide_image(random: &mut Random) -> Built {
+/// Versions of the other edition and of none, and headers whose fields stand where the other has them.
+fn images_with_other_headers(random: &mut Random) -> Vec<Subject> {
+    let built = small_image(random, false);
+    let damaged = (0..12).map(|_| {
+        let damage = random.one_of([
+            Damage::Version,
+            Damage::Version,
+            Damage::OtherEdition,
+            Damage::OtherSentinel,
+            Damage::OtherRoots,
+            Damage::OtherEnd,
+        ]);
+        damaged_image(&built, (damage, true), random)
+    });
+    damaged.collect()
+}
+
+/// Blocks of the most bytes in either edition, a little less and one more.
+fn images_about_most(random: &mut Random) -> Vec<Subject> {
+    let built = small_image(random, true);
+    let damaged = (0..12).map(|_| {
+        let sealed = !random.one_in(8);
+        let mut subject = damaged_image(&built, (Damage::SizeAboutMost, sealed), random);
+        // None but the block and the nodes at stake.
+        subject.calls = &[
+            Call::TestBlock,
+            Call::ReadBlock,
+            Call::ReadNode,
+            Call::ReadNode,
+        ];
+        subject
+    });
+    damaged.collect()
+}
+
+fn wide_image(random: &mut Random, edition: Edition) -> Built {
     let plan = Plan {
+        edition,
         method: random.below(3) as u8,
         node_level: random.between(2, 3) as u8,
         block_level: random.between(2, 3) as u8,
@@ -121,12 +169,13 @@ fn wide_image(random: &mut Random) -> Built {
 }
 
 fn damage(random: &mut Random) -> (Damage, bool) {
-    let group = match random.below(19) {
+    let group = match random.below(22) {
         0 => WHOLE,
-        1..=3 => HEADER,
-        4..=8 => PAGE,
-        9..=10 => KEYS,
-        11..=15 => BLOCK,
+        1..=4 => HEADER,
+        5..=9 => PAGE,
+        10..=11 => KEYS,
+        12..=16 => BLOCK,
+        17..=18 => EDITION,
         _ => END,
     };
     let damage = random.pick(group).copied().unwrap_or(Damage::AnyByte);
@@ -168,11 +217,16 @@ fn random_image(random: &mut Random) -> Subject {
     let mut bytes = random.bytes(length);
     let headed = length >= 564 && random.one_in(2);
     if headed {
-        let plan = Plan::default();
+        let plan = Plan {
+            edition: edition(random),
+            ..Plan::default()
+        };
         let head = build(random.number(), &plan).image;
         bytes[..564].copy_from_slice(&head[..564]);
         if random.one_in(2) {
-            random.fill(&mut bytes[216..248]);
+            let layout = plan.edition.layout();
+            let roots = layout.header.nodes..layout.header.blocks + 2 * layout.width;
+            random.fill(&mut bytes[roots]);
             seal_header(&mut bytes);
         }
         if !random.one_in(4) {
@@ -183,13 +237,14 @@ fn random_image(random: &mut Random) -> Subject {
     Subject::new(format!("random image, headed {headed}"), bytes, ON_IMAGE)
 }
 
-/// A data tree of the most bytes that a node can have: one block named 1,021 times.
-pub fn widest_image(seed: u64) -> Subject {
+/// A data tree of the most bytes that a node can have: one block named as often as a tree can.
+pub fn widest_image(edition: Edition, seed: u64) -> Subject {
     let plan = Plan {
+        edition,
         method: (seed % 3) as u8,
         tree_nodes: 1,
-        most_size: 8176,
-        most_children: 1021,
+        most_size: usize::MAX,
+        most_children: usize::MAX,
         one_child: true,
         loose_bit_0: seed > 0,
         ..Plan::default()
@@ -198,15 +253,21 @@ pub fn widest_image(seed: u64) -> Subject {
     Subject {
         nodes: built.node_numbers(),
         blocks: built.block_numbers(),
-        asks: 6,
+        asks: 3,
         ..Subject::new("widest".into(), built.image, &[Call::ReadNode])
     }
 }
 
-/// Images for the longest lists of nodes: as built, and with a page of the node tree at fault.
+/// Images of both editions for the longest lists of nodes: as built, and with a page of the node tree at
+/// fault.
 pub fn images_for_long_lists(seed: u64) -> Vec<Subject> {
+    let of = |edition| long_lists(edition, seed);
+    Edition::BOTH.into_iter().flat_map(of).collect()
+}
+
+fn long_lists(edition: Edition, seed: u64) -> Vec<Subject> {
     let mut random = Random::new(seed);
-    let built = wide_image(&mut random);
+    let built = wide_image(&mut random, edition);
     let mut images = vec![("as built", built.image.clone())];
     for (name, damage) in [("refused", Damage::PageSum), ("stale", Damage::KeyStale)] {
         images.push((name, with_nodes_at_fault(&built, damage, &mut random)));
@@ -234,6 +295,10 @@ fn heap(random: &mut Random) -> PlacedHeap {
     if random.one_in(12) {
         let items = random.one_of([0, 1, 2046, 2047, 2048, 2049]);
         return empty_items(random, items);
+    }
+    if random.one_in(8) {
+        let length = random.one_of(LENGTHS);
+        return context_of_length(random, length);
     }
     if random.one_in(6) {
         let items = match random.below(8) {
@@ -277,7 +342,7 @@ fn heap_subject(name: String, heap: &PlacedHeap, block: Vec<u8>) -> Subject {
 
 fn random_heap(random: &mut Random) -> Subject {
     let length = match random.below(3) {
-        0 => random.one_of([0, 1, 11, 12, 13, 17, 18, 8176, 8177]),
+        0 => random.one_of([0, 1, 11, 12, 13, 17, 18, 8180, 8181]),
         _ => random.below(400),
     };
     let mut bytes = random.bytes(length);

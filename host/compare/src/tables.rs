@@ -11,7 +11,11 @@ pub use fault::Fault;
 
 /// The model's bounds, said here once more: a slip there must not change what is drawn or has to be met.
 pub const CELL_WORDS: usize = 6;
-pub const MOST_ROWS: usize = 8176;
+pub const MOST_ROWS: usize = 8180;
+
+/// Lengths of heaps and rows that have to be met: those that no block of 64 bits has, and the first that
+/// is too long.
+pub const LENGTHS: [usize; 5] = [8177, 8178, 8179, MOST_ROWS, MOST_ROWS + 1];
 
 /// What a call on a table has met.
 #[derive(Clone, Copy, PartialEq, Eq, PartialOrd, Ord, Debug)]
@@ -29,9 +33,9 @@ pub enum Met {
     /// A cell that is there, in an answer or in a place of a row.
     Cell(Call, Content),
     /// A row index with so many index levels and rows, where the id was found or not.
-    Index(u8, bool),
+    Index(Call, u8, bool),
     /// A row index without rows.
-    EmptyIndex,
+    EmptyIndex(Call),
     /// An area for the cells of a row that is there.
     Area(Area),
     /// An area that would be too short, were the row there.
@@ -44,8 +48,8 @@ pub enum Length {
     OneUnderWholeRows,
     WholeRows,
     OneOverWholeRows,
-    Most,
-    OneOverMost,
+    /// One of those lengths.
+    Bytes(usize),
     Longer,
 }
 
@@ -91,7 +95,7 @@ impl Met {
     /// What a run has to meet.
     pub fn all() -> impl Iterator<Item = Met> {
         use {Area as A, Call::*, Length as L, Number as N, Tag as T};
-        let calls = [Table, Column, CountRows, Cell, FindRow, ReadRow];
+        let calls = [Table, Column, CountRows, Cell, FindRow, FindRow32, ReadRow];
         let refused = calls.into_iter().flat_map(|call| {
             let faults = Fault::all_of(call).into_iter();
             faults.map(move |fault| Met::Refused(call, fault))
@@ -101,29 +105,29 @@ impl Met {
             L::OneUnderWholeRows,
             L::WholeRows,
             L::OneOverWholeRows,
-            L::Most,
-            L::OneOverMost,
             L::Longer,
         ];
+        let blocks = blocks.into_iter().chain(LENGTHS.map(L::Bytes));
         let numbers = [N::First, N::Last, N::Behind, N::Highest];
         let asked = numbers
             .into_iter()
             .flat_map(|number| [Column, Cell, ReadRow].map(|call| Met::Asked(call, number)));
-        let others = [
-            Met::Asked(Column, N::Byte),
-            Met::EmptyIndex,
-            Met::AreaForAbsent,
-        ];
+        let others = [Met::Asked(Column, N::Byte), Met::AreaForAbsent];
         refused
             .chain([1, 2, 3].map(Met::Rows))
             .chain(blocks.map(Met::RowsBlock))
             .chain(asked)
             .chain([T::Zero, T::Near, T::Other].map(Met::UnknownTag))
             .chain([Cell, ReadRow].into_iter().flat_map(contents))
-            .chain((0..=3).flat_map(|levels| [true, false].map(|met| Met::Index(levels, met))))
+            .chain([FindRow, FindRow32].into_iter().flat_map(indexes))
             .chain([A::None, A::WordShort, A::Exact, A::Longer].map(Met::Area))
             .chain(others)
     }
+}
+
+fn indexes(call: Call) -> impl Iterator<Item = Met> {
+    let of = move |levels| [true, false].map(|found| Met::Index(call, levels, found));
+    (0..=3).flat_map(of).chain([Met::EmptyIndex(call)])
 }
 
 fn contents(call: Call) -> [Met; 8] {
@@ -156,9 +160,9 @@ impl fmt::Display for Met {
             Met::UnknownTag(Tag::Near) => write!(f, "unknown tag: one bit off a column's"),
             Met::UnknownTag(Tag::Other) => write!(f, "unknown tag: any other"),
             Met::Cell(call, content) => write!(f, "{call:?}: {content}"),
-            Met::Index(levels, true) => write!(f, "index levels {levels}: found"),
-            Met::Index(levels, false) => write!(f, "index levels {levels}: absent"),
-            Met::EmptyIndex => write!(f, "index without rows: absent"),
+            Met::Index(call, levels, true) => write!(f, "{call:?}: index levels {levels}, found"),
+            Met::Index(call, levels, false) => write!(f, "{call:?}: index levels {levels}, absent"),
+            Met::EmptyIndex(call) => write!(f, "{call:?}: index without rows"),
             Met::Area(area) => write!(f, "area for a row: {area}"),
             Met::AreaForAbsent => write!(f, "area too short for an absent row"),
         }
@@ -172,9 +176,8 @@ impl fmt::Display for Length {
             Length::OneUnderWholeRows => "a byte under whole rows",
             Length::WholeRows => "whole rows",
             Length::OneOverWholeRows => "a byte over whole rows",
-            Length::Most => "8176 bytes",
-            Length::OneOverMost => "8177 bytes",
-            Length::Longer => "over 8177 bytes",
+            Length::Bytes(length) => return write!(f, "{length} bytes"),
+            Length::Longer => "over 8181 bytes",
         })
     }
 }

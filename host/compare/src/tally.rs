@@ -3,7 +3,8 @@
 use crate::ask::{Answers, Ask, Call, Lent};
 use crate::keys::KeyFault;
 use crate::lists::Met;
-use crate::{checksums, end, tables};
+use crate::{checksums, editions, end, tables};
+use model::edition::Edition;
 use model::page::Tree;
 use model::Refusal;
 use std::collections::BTreeMap;
@@ -29,7 +30,9 @@ pub struct Tally {
     pub lists: BTreeMap<Met, u64>,
     pub checksums: BTreeMap<checksums::Met, u64>,
     /// What a place says counts once a place, all else once a call.
-    pub ends: BTreeMap<(Call, end::Met), u64>,
+    pub ends: BTreeMap<(Call, Edition, end::Met), u64>,
+    /// What a place says counts once a place, all else once a call.
+    pub editions: BTreeMap<(Call, editions::Met), u64>,
     /// What a place says counts once a place, all else once a call.
     pub tables: BTreeMap<tables::Met, u64>,
 }
@@ -56,8 +59,24 @@ impl Tally {
     /// Adds what the answer to a call on an image says of the end of the file, and the area that a list
     /// was answered in.
     pub fn add_end(&mut self, ask: &Ask, lent: Lent, answers: &Answers, area: &[u64]) {
+        let edition = Edition::of(lent.bytes);
         for met in end::Met::in_call(ask, lent, &answers.model, area) {
-            *self.ends.entry((ask.call, met)).or_default() += 1;
+            *self.ends.entry((ask.call, edition, met)).or_default() += 1;
+        }
+    }
+
+    /// Adds what the answer to a call on an image says of its edition, and the area that a list was
+    /// answered in.
+    pub fn add_edition(&mut self, ask: &Ask, lent: Lent, answers: &Answers, area: &[u64]) {
+        for met in editions::Met::in_call(ask, lent, &answers.model, area) {
+            *self.editions.entry((ask.call, met)).or_default() += 1;
+        }
+    }
+
+    /// Adds what the answer to a call on a heap says of its length.
+    pub fn add_heap(&mut self, call: Call, block: &[u8], answers: &Answers) {
+        if let Some(met) = editions::Met::in_heap(block, &answers.model) {
+            *self.editions.entry((call, met)).or_default() += 1;
         }
     }
 
@@ -127,9 +146,15 @@ impl Tally {
     }
 
     /// What calls on images have to meet of the end of the file and never met.
-    pub fn ends_not_reached(&self) -> Vec<(Call, end::Met)> {
-        let never = |met: &(Call, end::Met)| !self.ends.contains_key(met);
+    pub fn ends_not_reached(&self) -> Vec<(Call, Edition, end::Met)> {
+        let never = |met: &(Call, Edition, end::Met)| !self.ends.contains_key(met);
         end::Met::all().filter(never).collect()
+    }
+
+    /// What calls on images and heaps have to meet of the editions and never met.
+    pub fn editions_not_reached(&self) -> Vec<(Call, editions::Met)> {
+        let never = |met: &(Call, editions::Met)| !self.editions.contains_key(met);
+        editions::Met::all().filter(never).collect()
     }
 
     /// What calls on tables have to meet and never met.
@@ -167,29 +192,40 @@ impl fmt::Display for Tally {
         write_counts(f, ("lists of nodes", "times"), &self.lists)?;
         write_counts(f, ("checksums", "calls"), &self.checksums)?;
         self.write_ends(f)?;
+        self.write_editions(f)?;
         write_counts(f, ("tables", "times"), &self.tables)
     }
 }
 
 impl Tally {
     fn write_keys(&self, f: &mut fmt::Formatter) -> fmt::Result {
-        writeln!(f, "\n{:<39} {:>8}", "keys at fault", "calls")?;
+        writeln!(f, "\n{:<48} {:>8}", "keys at fault", "calls")?;
         for (fault, count) in &self.keys {
             let tree = match fault.tree {
                 Tree::Nodes => "node",
                 Tree::Blocks => "block",
             };
             let role = format!("{:?}", fault.role).to_lowercase();
-            let page = format!("{tree} tree, {role}");
+            let page = format!("{} bits, {tree} tree, {role}", fault.edition.bits());
             let fault = fault.to_string();
-            writeln!(f, "{page:<17} {fault:<21} {count:>8}")?;
+            writeln!(f, "{page:<26} {fault:<21} {count:>8}")?;
         }
         Ok(())
     }
 
     fn write_ends(&self, f: &mut fmt::Formatter) -> fmt::Result {
-        writeln!(f, "\n{:<39} {:>8}", "the end of the file", "times")?;
-        for ((call, met), count) in &self.ends {
+        writeln!(f, "\n{:<48} {:>8}", "the end of the file", "times")?;
+        for ((call, edition, met), count) in &self.ends {
+            let name = format!("{call:?}");
+            let met = format!("{} bits, {met}", edition.bits());
+            writeln!(f, "{name:<13} {met:<34} {count:>8}")?;
+        }
+        Ok(())
+    }
+
+    fn write_editions(&self, f: &mut fmt::Formatter) -> fmt::Result {
+        writeln!(f, "\n{:<39} {:>8}", "the editions", "times")?;
+        for ((call, met), count) in &self.editions {
             let name = format!("{call:?}");
             let met = met.to_string();
             writeln!(f, "{name:<13} {met:<25} {count:>8}")?;

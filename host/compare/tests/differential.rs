@@ -4,7 +4,9 @@
 //! checksums of every length under eight, over every rest of an eight and from every alignment, in every
 //! call on an image an end-of-file number that is too high, and pages and blocks at the end of the file,
 //! over it and behind it, and in calls on tables every fault, every sort of cell and every limit of rows,
-//! columns and areas.
+//! columns and areas. All of this is met in both editions where it is of images; and so are, call by call,
+//! every refusal with the header's places, roots of every level, versions that are refused, numbers that
+//! have no room in four bytes, and blocks and heaps of every length about the most.
 
 use compare::run::Run;
 use compare::tally::refusals;
@@ -46,5 +48,6 @@ fn differential() {
     assert_eq!(run.tally.lists_not_reached(), []);
     assert_eq!(run.tally.checksums_not_reached(), []);
     assert_eq!(run.tally.ends_not_reached(), []);
+    assert_eq!(run.tally.editions_not_reached(), []);
     assert_eq!(run.tally.tables_not_reached(), []);
 }

@@ -10,21 +10,28 @@ use model::build::end::{
     block_behind, block_over, hanging_on, page_behind, page_over, root_behind, too_high, zero,
 };
 use model::build::{build, Built, Plan};
+use model::edition::Edition;
 use model::images::images;
 use model::random::Random;
 use std::collections::BTreeSet;
 
+const WIDE: Edition = Edition::Bits64;
+
 #[test]
 fn what_has_to_be_met() {
     let all: BTreeSet<_> = Met::all().collect();
-    assert_eq!(all.len(), 3 + 7 * 5 + 3 * 8);
-    let of = |met| all.iter().filter(move |(_, other)| *other == met).count();
-    assert_eq!((of(Met::TooHigh), of(Met::HangingOn)), (11, 11));
+    assert_eq!(all.len(), 2 * (3 + 7 * 5 + 3 * 8));
+    let of = |met| {
+        all.iter()
+            .filter(move |(_, _, other)| *other == met)
+            .count()
+    };
+    assert_eq!((of(Met::TooHigh), of(Met::HangingOn)), (22, 22));
     let pages = [Met::PageOver, Met::PageBehind, Met::PageAt];
-    assert_eq!(pages.map(of), [10; 3]);
+    assert_eq!(pages.map(of), [20; 3]);
     let blocks = [Met::BlockOver, Met::BlockBehind, Met::BlockAt];
-    assert_eq!(blocks.map(of), [3; 3]);
-    let words: BTreeSet<_> = all.iter().map(|(_, met)| met.to_string()).collect();
+    assert_eq!(blocks.map(of), [6; 3]);
+    let words: BTreeSet<_> = all.iter().map(|(_, _, met)| met.to_string()).collect();
     assert_eq!(words.len(), 9);
     assert_eq!(Tally::default().ends_not_reached().len(), all.len());
 }
@@ -52,55 +59,79 @@ fn met(built: &Built, call: Call, number: u64) -> Vec<Met> {
 fn in_the_header() {
     use Met::*;
     let said = |built: Built| met(&built, Call::Header, 0);
-    assert_eq!(said(build(1, &Plan::default())), []);
-    assert_eq!(said(too_high()), [TooHigh]);
-    assert_eq!(said(zero()), [HangingOn, Zero]);
-    assert_eq!(said(page_behind()), [HangingOn]);
-    for call in [Call::CheckBlocks, Call::FindNode, Call::ReadBlock] {
-        assert_eq!(met(&too_high(), call, 0x100), [TooHigh]);
+    for edition in Edition::BOTH {
+        let plan = Plan {
+            edition,
+            ..Plan::default()
+        };
+        assert_eq!(said(build(1, &plan)), []);
+        assert_eq!(said(too_high(edition)), [TooHigh]);
+        assert_eq!(said(zero(edition)), [HangingOn, Zero]);
+        assert_eq!(said(page_behind(edition)), [HangingOn]);
+        for call in [Call::CheckBlocks, Call::FindNode, Call::ReadBlock] {
+            assert_eq!(met(&too_high(edition), call, 0x100), [TooHigh]);
+        }
+        assert_eq!(met(&too_high(edition), Call::FindNodes, 5), [TooHigh; 2]);
     }
-    assert_eq!(met(&too_high(), Call::FindNodes, 5), [TooHigh; 2]);
 }
 
 #[test]
 fn of_pages() {
     use Met::*;
     // The last page is the root of the node tree; the leaves of the block tree part before 0x10E.
-    assert_eq!(met(&hanging_on(), Call::CheckNodes, 0), [HangingOn, PageAt]);
-    assert_eq!(met(&hanging_on(), Call::CheckBlocks, 0), [HangingOn]);
-    assert_eq!(met(&root_behind(), Call::CheckNodes, 0), [PageBehind]);
-    assert_eq!(met(&root_behind(), Call::NextNode, 0), [PageBehind]);
-    assert_eq!(met(&root_behind(), Call::FindNodes, 7), [PageBehind; 2]);
-    assert_eq!(met(&page_behind(), Call::ReadNode, 0x8022), [PageBehind]);
     assert_eq!(
-        met(&page_behind(), Call::ReadNode, 0x80E2),
+        met(&hanging_on(WIDE), Call::CheckNodes, 0),
         [HangingOn, PageAt]
     );
-    assert_eq!(met(&page_over(64), Call::FindBlock, 0x100), [PageOver]);
-    assert_eq!(met(&page_over(64), Call::FindBlock, 0x110), [HangingOn]);
-    assert_eq!(met(&page_over(512), Call::TestBlock, 0x100), [PageBehind]);
+    assert_eq!(met(&hanging_on(WIDE), Call::CheckBlocks, 0), [HangingOn]);
+    assert_eq!(met(&root_behind(WIDE), Call::CheckNodes, 0), [PageBehind]);
+    assert_eq!(met(&root_behind(WIDE), Call::NextNode, 0), [PageBehind]);
+    assert_eq!(met(&root_behind(WIDE), Call::FindNodes, 7), [PageBehind; 2]);
     assert_eq!(
-        met(&page_over(0), Call::TestBlock, 0x100),
+        met(&page_behind(WIDE), Call::ReadNode, 0x8022),
+        [PageBehind]
+    );
+    assert_eq!(
+        met(&page_behind(WIDE), Call::ReadNode, 0x80E2),
+        [HangingOn, PageAt]
+    );
+    assert_eq!(
+        met(&page_over(WIDE, 64), Call::FindBlock, 0x100),
+        [PageOver]
+    );
+    assert_eq!(
+        met(&page_over(WIDE, 64), Call::FindBlock, 0x110),
+        [HangingOn]
+    );
+    assert_eq!(
+        met(&page_over(WIDE, 512), Call::TestBlock, 0x100),
+        [PageBehind]
+    );
+    assert_eq!(
+        met(&page_over(WIDE, 0), Call::TestBlock, 0x100),
         [HangingOn, PageAt]
     );
 }
 
 #[test]
 fn of_blocks() {
+    Edition::BOTH.into_iter().for_each(assert_blocks);
+}
+
+fn assert_blocks(edition: Edition) {
     use Met::*;
     let node = 0x8082;
-    for (built, expected) in [
-        (block_behind(), &[BlockBehind][..]),
-        (block_over(1), &[BlockOver]),
-        (block_over(64), &[BlockOver]),
-        (block_over(256), &[BlockBehind]),
-    ] {
-        assert_eq!(met(&built, Call::TestBlock, 0x10C), expected);
-        assert_eq!(met(&built, Call::ReadBlock, 0x10C), expected);
-        assert_eq!(met(&built, Call::ReadNode, node), expected);
+    let room = edition.layout().room(180);
+    for (bytes, expected) in [(1, BlockOver), (64, BlockOver), (room, BlockBehind)] {
+        let built = block_over(edition, bytes);
+        assert_eq!(met(&built, Call::TestBlock, 0x10C), [expected]);
+        assert_eq!(met(&built, Call::ReadBlock, 0x10C), [expected]);
+        assert_eq!(met(&built, Call::ReadNode, node), [expected]);
         assert_eq!(met(&built, Call::FindBlock, 0x10C), [HangingOn]);
     }
-    let built = block_over(0);
+    let behind = block_behind(edition);
+    assert_eq!(met(&behind, Call::TestBlock, 0x10C), [BlockBehind]);
+    let built = block_over(edition, 0);
     for (call, number) in [
         (Call::TestBlock, 0x10C),
         (Call::ReadBlock, 0x10C),
@@ -115,14 +146,16 @@ fn of_blocks() {
 /// A page or block that is refused on its own account too is not told.
 #[test]
 fn not_by_the_end_alone() {
-    let mut built = page_behind();
-    let page = built.image.len() - 512;
-    built.image[page] ^= 1;
-    assert_eq!(met(&built, Call::FindNode, 0x8022), []);
-    let mut built = block_behind();
-    let block = built.image.len() - 256;
-    built.image[block] ^= 1;
-    assert_eq!(met(&built, Call::TestBlock, 0x10C), []);
+    for edition in Edition::BOTH {
+        let mut built = page_behind(edition);
+        let page = built.image.len() - 512;
+        built.image[page] ^= 1;
+        assert_eq!(met(&built, Call::FindNode, 0x8022), []);
+        let mut built = block_behind(edition);
+        let block = built.block(0x10C).expect("it is placed").offset;
+        built.image[block] ^= 1;
+        assert_eq!(met(&built, Call::TestBlock, 0x10C), []);
+    }
 }
 
 /// The chosen images, each with its tail cut off, changed and grown.
@@ -161,18 +194,20 @@ fn chosen_images() {
 #[test]
 fn images_that_are_drawn() {
     let mut random = Random::new(1);
-    let hanging = hanging_on().image;
-    let end = 22_464;
-    let mut lengths = BTreeSet::new();
-    for _ in 0..200 {
-        let other = other_behind(&hanging, &mut random).expect("another");
-        assert_eq!(other[..end], hanging[..end]);
-        lengths.insert(other.len());
+    for edition in Edition::BOTH {
+        let hanging = hanging_on(edition).image;
+        let end = model::header(&hanging).expect("a header").end as usize;
+        let mut lengths = BTreeSet::new();
+        for _ in 0..200 {
+            let other = other_behind(&hanging, &mut random).expect("another");
+            assert_eq!(other[..end], hanging[..end]);
+            lengths.insert(other.len());
+        }
+        assert!(lengths.contains(&end) && lengths.contains(&hanging.len()));
+        let zero = zero(edition).image;
+        let other = other_behind(&zero, &mut random).expect("another");
+        assert_eq!(other[..564], zero[..564]);
+        assert_eq!(other_behind(&too_high(edition).image, &mut random), None);
+        assert_eq!(other_behind(&zero[..563], &mut random), None);
     }
-    assert!(lengths.contains(&end) && lengths.contains(&hanging.len()));
-    let zero = zero().image;
-    let other = other_behind(&zero, &mut random).expect("another");
-    assert_eq!(other[..564], zero[..564]);
-    assert_eq!(other_behind(&too_high().image, &mut random), None);
-    assert_eq!(other_behind(&zero[..563], &mut random), None);
 }

@@ -1,10 +1,11 @@
-//! The chosen images and the sample mail file: every call on them, put to both.
+//! The chosen images and the sample mail files: every call on them, put to both.
 
 use compare::ask::{ask, Ask, Call, Lent, ON_HEAP, ON_IMAGE, ON_TABLE};
 use compare::buffers::Buffers;
 use compare::lists::WORDS;
 use compare::tables::CELL_WORDS;
 use model::build::office::office;
+use model::edition::Edition;
 use model::images::{images, Image};
 
 /// Lent where the rows of a table stand in a subnode, which no call looks for.
@@ -113,15 +114,16 @@ fn chosen_images() {
 }
 
 #[test]
-fn sample_mail_file() {
-    let office = office();
-    assert_image(&Image {
-        name: "office".into(),
-        nodes: office.node_numbers(),
-        blocks: office.block_numbers(),
-        from: vec![0, 0x8022, u64::from(u32::MAX)],
-        ids: vec![0x37, 0x1000, 0x3001, 0x3602],
-        buffer: 65_536,
-        bytes: office.image,
-    });
+fn sample_mail_files() {
+    for office in Edition::BOTH.map(office) {
+        assert_image(&Image {
+            name: format!("office, {:?}", office.edition),
+            nodes: office.node_numbers(),
+            blocks: office.block_numbers(),
+            from: vec![0, 0x8022, u64::from(u32::MAX), 1 << 32 | 4],
+            ids: vec![0x37, 0x1000, 0x3001, 0x3602],
+            buffer: 65_536,
+            bytes: office.image,
+        });
+    }
 }

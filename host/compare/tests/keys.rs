@@ -5,6 +5,7 @@ use model::build::keys::{
     below, equal, exchanged, index_last, order_first, range_first, shuffled, unsplit,
 };
 use model::build::{build, Plan};
+use model::edition::Edition;
 use model::page::Tree;
 use model::Refusal;
 use std::collections::BTreeSet;
@@ -13,10 +14,10 @@ use std::collections::BTreeSet;
 #[test]
 fn faults_that_can_occur() {
     let all: BTreeSet<_> = KeyFault::all_that_can_occur().collect();
-    assert_eq!(all.len(), 44);
+    assert_eq!(all.len(), 2 * 44);
     let of = |role| all.iter().filter(move |fault| fault.role == role);
-    assert_eq!(of(Role::Index).count(), 20);
-    assert_eq!(of(Role::Leaf).count(), 20);
+    assert_eq!(of(Role::Index).count(), 2 * 20);
+    assert_eq!(of(Role::Leaf).count(), 2 * 20);
     let in_root = |fault: &KeyFault| (fault.rule, fault.other);
     let in_roots: BTreeSet<_> = of(Role::Root).map(in_root).collect();
     assert_eq!(in_roots, [(Rule::Order, Other::Nowhere)].into());
@@ -35,19 +36,24 @@ fn faults(image: &[u8]) -> Vec<KeyFault> {
 
 #[test]
 fn chosen_images() {
+    Edition::BOTH.into_iter().for_each(assert_chosen);
+}
+
+fn assert_chosen(edition: Edition) {
     use {Other::*, Position::*, Role::*, Rule::*, Tree::*};
     let cases = [
-        (shuffled(), (Blocks, Leaf, Order, Last, Nowhere)),
-        (equal(), (Blocks, Index, Order, Middle, Nowhere)),
-        (exchanged(), (Blocks, Leaf, Range, First, Nowhere)),
-        (unsplit(), (Nodes, Leaf, Range, Middle, Nowhere)),
-        (range_first(), (Blocks, Leaf, Range, Middle, Later)),
-        (order_first(), (Nodes, Leaf, Order, Middle, Later)),
-        (below(), (Blocks, Leaf, Order, Middle, SameEntry)),
-        (index_last(), (Nodes, Index, Range, Last, Nowhere)),
+        (shuffled(edition), (Blocks, Leaf, Order, Last, Nowhere)),
+        (equal(edition), (Blocks, Index, Order, Middle, Nowhere)),
+        (exchanged(edition), (Blocks, Leaf, Range, First, Nowhere)),
+        (unsplit(edition), (Nodes, Leaf, Range, Middle, Nowhere)),
+        (range_first(edition), (Blocks, Leaf, Range, Middle, Later)),
+        (order_first(edition), (Nodes, Leaf, Order, Middle, Later)),
+        (below(edition), (Blocks, Leaf, Order, Middle, SameEntry)),
+        (index_last(edition), (Nodes, Index, Range, Last, Nowhere)),
     ];
     for (built, (tree, role, rule, position, other)) in cases {
         let fault = KeyFault {
+            edition,
             tree,
             role,
             rule,

@@ -3,15 +3,13 @@
 use compare::answers;
 use model::build::seal::{seal_page, set_end};
 use model::build::{build, Built, Plan};
+use model::edition::Edition;
 use model::header::MOST_IMAGE;
 use rekwonuda_sys as proved;
 
-fn put(image: &mut [u8], at: usize, number: u64) {
-    image[at..at + 8].copy_from_slice(&number.to_le_bytes());
-}
-
-fn small() -> Built {
+fn small(edition: Edition) -> Built {
     let plan = Plan {
+        edition,
         bare_nodes: 5,
         tidy: true,
         ..Plan::default()
@@ -21,14 +19,16 @@ fn small() -> Built {
 
 /// A small image with zeros behind it, whose root page of the node tree stands at that offset, and ends
 /// with the file.
-fn long(length: usize, offset: usize) -> Vec<u8> {
-    let small = small();
+fn long(edition: Edition, length: usize, offset: usize) -> Vec<u8> {
+    let small = small(edition);
     let page = small.pages.last().expect("a root page").offset;
     let mut image = vec![0; length];
     image[..small.image.len()].copy_from_slice(&small.image);
     image[offset..offset + 512].copy_from_slice(&small.image[page..page + 512]);
     seal_page(&mut image, offset);
-    put(&mut image, 224, offset as u64);
+    let layout = edition.layout();
+    let place = layout.header.nodes + layout.width;
+    layout.put_number(&mut image, place, offset as u64);
     set_end(&mut image, offset as u64 + 512);
     image
 }
@@ -57,17 +57,24 @@ fn compare(image: &[u8], node: u64) -> (u64, u64) {
 
 #[test]
 fn longest_image() {
-    let node = u64::from(small().nodes[0].node);
+    for (edition, place) in [(Edition::Bits64, 184), (Edition::Bits32, 168)] {
+        assert_longest(edition, place);
+    }
+}
+
+/// The end-of-file number stands at that place.
+fn assert_longest(edition: Edition, place: u64) {
+    let node = u64::from(small(edition).nodes[0].node);
     let page = MOST_IMAGE - 512;
-    let mut image = long(MOST_IMAGE + 1, page);
+    let mut image = long(edition, MOST_IMAGE + 1, page);
     assert_eq!(compare(&image[..MOST_IMAGE], node), (0, 0));
-    assert_eq!(compare(&image[..MOST_IMAGE - 1], node), (1, 184));
+    assert_eq!(compare(&image[..MOST_IMAGE - 1], node), (1, place));
     assert_eq!(compare(&image, node), (1, 0));
     set_end(&mut image, MOST_IMAGE as u64 - 1);
     for length in [MOST_IMAGE - 1, MOST_IMAGE] {
         assert_eq!(compare(&image[..length], node), (6, page as u64));
     }
     set_end(&mut image, MOST_IMAGE as u64 + 1);
-    assert_eq!(compare(&image[..MOST_IMAGE], node), (1, 184));
+    assert_eq!(compare(&image[..MOST_IMAGE], node), (1, place));
     assert_eq!(compare(&image, node), (1, 0));
 }

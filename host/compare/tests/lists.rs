@@ -6,6 +6,7 @@ use compare::buffers::Buffers;
 use compare::lists::{area, draw, length, long, Met, MOST_NODES, WORDS};
 use compare::tally::Tally;
 use model::build::lists::mixed;
+use model::edition::Edition;
 use model::random::Random;
 use std::collections::BTreeSet;
 
@@ -20,7 +21,7 @@ fn what_has_to_be_met() {
 
 /// What a list on an image with sound, stale and refused leaves meets, in an area of so many words.
 fn met(nodes: &[u64], words: usize) -> Vec<Met> {
-    let image = mixed().image;
+    let image = mixed(Edition::Bits64).image;
     let question = Ask {
         words,
         ..Ask::new(Call::FindNodes, 0)

@@ -8,9 +8,10 @@ use compare::tables::draw::{id, index, row, rows, tag, Known};
 use compare::tables::{Area, Content, Fault, Length, Met, Number, Tag};
 use compare::tally::Tally;
 use model::build::tables::{
-    place_table, usual_layout, worked_example, GivenCell, GivenTable, PlacedTable, RowsPlace,
+    place_table_of, usual_layout, worked_example, GivenCell, GivenTable, PlacedTable, RowsPlace,
     ROW_ID, ROW_VERSION,
 };
+use model::edition::Edition;
 use model::random::Random;
 use std::collections::BTreeSet;
 
@@ -19,8 +20,8 @@ const NAME: u32 = 0x3001_001F;
 #[test]
 fn what_has_to_be_met() {
     let all: BTreeSet<_> = Met::all().collect();
-    let refused = 6 * 5 + 2 + 3 + 4 + 5;
-    let answered = 3 + 7 + 3 * 4 + 1 + 3 + 2 * 8 + 4 * 2 + 1;
+    let refused = 7 * 5 + 2 + 3 + 4 + 2 * 6;
+    let answered = 3 + 10 + 3 * 4 + 1 + 3 + 2 * 8 + 2 * (4 * 2 + 1);
     assert_eq!(all.len(), refused + answered + 5);
     assert_eq!(Met::all().count(), all.len());
     let words: BTreeSet<_> = all.iter().map(ToString::to_string).collect();
@@ -38,6 +39,7 @@ fn numbers_of_faults() {
         Call::CountRows,
         Call::Cell,
         Call::FindRow,
+        Call::FindRow32,
         Call::ReadRow,
     ] {
         assert!(call.reads_table());
@@ -49,6 +51,10 @@ fn numbers_of_faults() {
 /// The row's id and version and a name; two rows in a subnode, the second one's name an item that there
 /// is not.
 fn small() -> PlacedTable {
+    small_of(Edition::Bits64)
+}
+
+fn small_of(edition: Edition) -> PlacedTable {
     let row = |name| vec![name, GivenCell::Number(0x8022), GivenCell::Missing];
     let given = GivenTable {
         layout: usual_layout(&[NAME]),
@@ -59,7 +65,7 @@ fn small() -> PlacedTable {
         index_levels: 2,
         tidy: true,
     };
-    let mut placed = place_table(&mut Random::new(0), &given);
+    let mut placed = place_table_of(edition, &mut Random::new(0), &given);
     let name = placed.columns[0].offset + placed.table.row_size;
     placed.rows[usize::from(name)..][..4].copy_from_slice(&0xFFE0_u32.to_le_bytes());
     placed
@@ -113,10 +119,12 @@ fn lengths_of_the_rows() {
     assert_eq!(counted(12), told(&[L::OneUnderWholeRows]));
     assert_eq!(counted(26), told(&[L::WholeRows]));
     assert_eq!(counted(27), told(&[L::OneOverWholeRows]));
-    assert_eq!(counted(8176), told(&[L::OneUnderWholeRows, L::Most]));
+    assert_eq!(counted(8176), told(&[L::OneUnderWholeRows]));
+    assert_eq!(counted(8177), told(&[L::WholeRows, L::Bytes(8177)]));
+    assert_eq!(counted(8180), told(&[L::Bytes(8180)]));
     let too_long = [Met::Refused(Call::CountRows, Fault::RowsLength)];
-    let (lengths, refused) = (told(&[L::WholeRows, L::OneOverMost]), &too_long[..]);
-    assert_eq!(counted(8177), [&lengths[..], refused].concat());
+    let (lengths, refused) = (told(&[L::Bytes(8181)]), &too_long[..]);
+    assert_eq!(counted(8181), [&lengths[..], refused].concat());
     let lengths = told(&[L::Longer]);
     assert_eq!(counted(9000), [&lengths[..], refused].concat());
     // Rows on the heap: the block is not looked at.
@@ -197,23 +205,30 @@ fn rows_in_one_call() {
 
 #[test]
 fn rows_of_the_index() {
-    let block = small().block;
-    let find = |id| met(&block, &[], Ask::new(Call::FindRow, id));
-    assert_eq!(find(0x8022), [Met::Index(2, true)]);
-    assert_eq!(find(0x8023), [Met::Index(2, false)]);
-    assert_eq!(find(0), [Met::Index(2, false)]);
-    let mut empty = small();
-    let index = model::item(&empty.block, empty.row_index_item).expect("it is there");
-    empty.block[index.start + 4..index.start + 8].fill(0);
-    let question = Ask::new(Call::FindRow, 0x8022);
-    assert_eq!(met(&empty.block, &[], question), [Met::EmptyIndex]);
+    for (edition, call, other) in [
+        (Edition::Bits64, Call::FindRow, Call::FindRow32),
+        (Edition::Bits32, Call::FindRow32, Call::FindRow),
+    ] {
+        let mut small = small_of(edition);
+        let find = |id| met(&small.block, &[], Ask::new(call, id));
+        assert_eq!(find(0x8022), [Met::Index(call, 2, true)]);
+        assert_eq!(find(0x8023), [Met::Index(call, 2, false)]);
+        assert_eq!(find(0), [Met::Index(call, 2, false)]);
+        let of_the_other = [Met::Refused(other, Fault::OtherIndex)];
+        let question = Ask::new(other, 0x8022);
+        assert_eq!(met(&small.block, &[], question), of_the_other);
+        let index = model::item(&small.block, small.row_index_item).expect("it is there");
+        small.block[index.start + 4..index.start + 8].fill(0);
+        let question = Ask::new(call, 0x8022);
+        assert_eq!(met(&small.block, &[], question), [Met::EmptyIndex(call)]);
+    }
 }
 
 /// Where the worked example has what is spoilt: see 003, 3.11.
 const RECORD: usize = 0x14;
 const INDEX_RECORD: usize = 0x0C;
 
-/// What each of the six calls meets after one byte was changed; rows none for an answer.
+/// What each of six calls meets after one byte was changed; rows none for an answer.
 fn faults(at: usize, byte: u8) -> [Option<Fault>; 6] {
     let mut block = worked_example().block;
     block[at] = byte;
@@ -254,6 +269,8 @@ fn faults_told_apart() {
     assert_eq!(faults(RECORD + 15, 1), rows(RowsItem));
     assert_eq!(faults(RECORD + 11, 1), index(IndexItem));
     assert_eq!(faults(INDEX_RECORD, 0xB4), index(IndexRecord));
+    assert_eq!(faults(INDEX_RECORD + 2, 6), index(IndexRecord));
+    assert_eq!(faults(INDEX_RECORD + 2, 2), index(OtherIndex));
     assert_eq!(faults(INDEX_RECORD + 7, 1), index(IndexRoot));
     // The index levels of a leaf's tree: its row numbers are then taken for items.
     assert_eq!(faults(INDEX_RECORD + 3, 1), index(IndexChild));
@@ -295,10 +312,11 @@ fn rows_that_are_drawn() {
         assert_eq!(rows[..kept], known.rows[..kept]);
         rows.len()
     });
-    assert!(lengths.is_superset(&[0, 9, 10, 11, 29, 30, 31, 41, 8176, 8177].into()));
-    assert!(lengths.range(8178..).count() > 100);
+    assert!(lengths.is_superset(&[0, 9, 10, 11, 29, 30, 31, 41].into()));
+    assert!(lengths.is_superset(&(8177..=8181).collect()));
+    assert!(lengths.range(8182..).count() > 100);
     let longest = drawn(|random| rows(&known, 60_000, random).len());
-    assert_eq!(longest.last(), Some(&16_352));
+    assert_eq!(longest.last(), Some(&16_360));
 }
 
 /// Tables of all kinds come up among what is lent.
@@ -319,6 +337,7 @@ fn subjects_with_tables() {
     for name in [
         "table",
         "table, anywhere",
+        "table, longer",
         "table, other items",
         "table, other record",
         "heap as a table",

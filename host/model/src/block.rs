@@ -1,16 +1,14 @@
-//! Blocks: lookup, test and reading (01, Blocks and their encoding; 02, 6/13; 003, 2.2.2.8). `file` is an
-//! image up to where the file ends, under a header that has been accepted.
+//! Blocks: lookup, test and reading (01, Blocks and their encoding; 02, 6/13 and 7/13; 003, 2.2.2.8).
+//! `file` is an image up to where the file ends, under a header that has been accepted.
 
-use crate::bytes::{u16_at, u32_at, u64_at};
+use crate::bytes::{u16_at, u32_at};
 use crate::checksum::{checksum, signature};
 use crate::coding::{decode, NONE};
+use crate::edition::{Edition, Layout};
 use crate::header::{file, header, Header};
 use crate::page::{Tree, FIRST_OFFSET, STEP};
 use crate::refusal::{demand, Answer, Refusal};
 use crate::tree::{self, Lookup};
-
-pub const MOST_SIZE: u16 = 8176;
-pub const TRAILER: u64 = 16;
 
 /// A block as the BBT lists it.
 #[derive(Clone, Copy, PartialEq, Eq, Debug)]
@@ -23,7 +21,12 @@ pub struct Block {
 
 /// The smallest multiple of 64 that holds size + 16.
 pub fn room(size: u32) -> u64 {
-    (u64::from(size) + TRAILER).next_multiple_of(STEP)
+    Edition::Bits64.layout().room(size)
+}
+
+/// The smallest multiple of 64 that holds size + 12.
+pub fn room32(size: u32) -> u64 {
+    Edition::Bits32.layout().room(size)
 }
 
 pub fn is_internal(block: u64) -> bool {
@@ -39,7 +42,8 @@ pub fn find_block(image: &[u8], block: u64) -> Answer<Lookup<Block>> {
 /// found moves on.
 pub fn next_block(image: &[u8], from: u64) -> Answer<Lookup<Block>> {
     let header = header(image)?;
-    Ok(tree::next(file(image), &header, Tree::Blocks, from)?.map(listed))
+    let found = tree::next(file(image), &header, Tree::Blocks, from)?;
+    Ok(found.map(|entry| listed(entry, header.edition.layout())))
 }
 
 /// The size of a block that passes every test.
@@ -59,15 +63,17 @@ pub fn read_block(image: &[u8], block: u64, out: &mut [u8]) -> Answer<usize> {
 }
 
 fn find(file: &[u8], header: &Header, block: u64) -> Answer<Lookup<Block>> {
-    Ok(tree::find(file, header, Tree::Blocks, block)?.map(listed))
+    let found = tree::find(file, header, Tree::Blocks, block)?;
+    Ok(found.map(|entry| listed(entry, header.edition.layout())))
 }
 
-fn listed(entry: &[u8]) -> Block {
+fn listed(entry: &[u8], layout: &Layout) -> Block {
+    let counts = 2 * layout.width;
     Block {
-        block: u64_at(entry, 0),
-        offset: u64_at(entry, 8),
-        size: u16_at(entry, 16),
-        references: u16_at(entry, 18),
+        block: layout.number_at(entry, 0),
+        offset: layout.number_at(entry, layout.width),
+        size: u16_at(entry, counts),
+        references: u16_at(entry, counts + 2),
     }
 }
 
@@ -83,11 +89,13 @@ impl<'a> Tested<'a> {
             .found()
             .ok_or(Refusal::new(12, 0))?;
         let place = listed.offset;
-        let room = room_in(file, &listed).ok_or(Refusal::new(13, place))?;
+        let layout = header.edition.layout();
+        let room = room_in(file, layout, &listed).ok_or(Refusal::new(13, place))?;
         let (stored, rest) = room.split_at(usize::from(listed.size));
-        let trailer = &rest[rest.len() - TRAILER as usize..];
-        demand(is_trailer_of(trailer, &listed), 14, place)?;
-        demand(u32_at(trailer, 4) == checksum(stored), 15, place)?;
+        let trailer = &rest[rest.len() - layout.trailer.length..];
+        demand(is_trailer_of(trailer, layout, &listed), 14, place)?;
+        let sum = u32_at(trailer, layout.trailer.sum);
+        demand(sum == checksum(stored), 15, place)?;
         Ok(Tested { listed, stored })
     }
 
@@ -101,11 +109,11 @@ impl<'a> Tested<'a> {
 }
 
 /// The bytes from the block's first to its trailer's last, where 13 does not apply.
-fn room_in<'a>(file: &'a [u8], listed: &Block) -> Option<&'a [u8]> {
+fn room_in<'a>(file: &'a [u8], layout: &Layout, listed: &Block) -> Option<&'a [u8]> {
     let Block { offset, size, .. } = *listed;
-    let allowed =
-        (1..=MOST_SIZE).contains(&size) && offset.is_multiple_of(STEP) && offset >= FIRST_OFFSET;
-    let end = offset.checked_add(room(u32::from(size)))?;
+    let sized = (1..=layout.most_size).contains(&size);
+    let allowed = sized && offset.is_multiple_of(STEP) && offset >= FIRST_OFFSET;
+    let end = offset.checked_add(layout.room(u32::from(size)))?;
     if allowed && end <= file.len() as u64 {
         Some(&file[offset as usize..end as usize])
     } else {
@@ -114,8 +122,9 @@ fn room_in<'a>(file: &'a [u8], listed: &Block) -> Option<&'a [u8]> {
 }
 
 /// The signature is that of the number as listed; the number itself is compared without bit 0.
-fn is_trailer_of(trailer: &[u8], listed: &Block) -> bool {
+fn is_trailer_of(trailer: &[u8], layout: &Layout, listed: &Block) -> bool {
+    let number = layout.number_at(trailer, layout.trailer.number);
     u16_at(trailer, 0) == listed.size
         && u16_at(trailer, 2) == signature(listed.offset, listed.block)
-        && Tree::Blocks.key(u64_at(trailer, 8)) == Tree::Blocks.key(listed.block)
+        && Tree::Blocks.key(number) == Tree::Blocks.key(listed.block)
 }

@@ -18,6 +18,14 @@ pub fn u64_at(bytes: &[u8], at: usize) -> u64 {
     u64::from_le_bytes(field)
 }
 
+/// A number of four or eight bytes.
+pub fn number_at(bytes: &[u8], at: usize, width: usize) -> u64 {
+    match width {
+        4 => u32_at(bytes, at).into(),
+        _ => u64_at(bytes, at),
+    }
+}
+
 pub fn put(bytes: &mut [u8], at: usize, field: &[u8]) {
     bytes[at..at + field.len()].copy_from_slice(field);
 }

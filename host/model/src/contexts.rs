@@ -1,13 +1,16 @@
-//! A choice of tables, the same each time: sound ones of all shapes, and one for each kind of damage. They
-//! are the files of the crate `contexts`, whose program asks the proved reader what [`report`] asks here.
+//! A choice of tables, the same each time: sound ones of all shapes, one for each kind of damage, some of
+//! files of 32 bits, and some of the most bytes. They are the files of the crate `contexts`, whose program
+//! asks the proved reader what [`report`] asks here.
 
+mod limits;
 mod report;
 
 use crate::build::tables::{
-    odd_layout, place_table, real_size, table_context, usual_layout, worked_example, GivenCell,
-    GivenTable, Layout, PlacedTable, RowsPlace, TablePlan, ROW_ID,
+    odd_layout, place_table, place_table_of, real_size, real_size_of, table_context, usual_layout,
+    worked_example, GivenCell, GivenTable, Layout, PlacedTable, RowsPlace, TablePlan, ROW_ID,
 };
 use crate::damage::table::{spoil_table, Side, TableDamage};
+use crate::edition::Edition;
 use crate::random::Random;
 use crate::table::Rows;
 
@@ -17,11 +20,13 @@ pub use report::report;
 #[derive(Clone, Debug)]
 pub struct Context {
     pub name: String,
+    /// Of the row index.
+    pub edition: Edition,
     pub block: Vec<u8>,
     pub rows: Option<Vec<u8>>,
 }
 
-/// Damage that needs a block longer than the program reads.
+/// Damage that needs a block of rows longer than a table of a few rows has; see [`limits`].
 const TOO_LONG: TableDamage = TableDamage::RowsLonger;
 
 const MOST_SEEDS: u64 = 1000;
@@ -44,7 +49,9 @@ pub fn files() -> Vec<(String, Vec<u8>)> {
 pub fn contexts() -> Vec<Context> {
     let mut contexts = sound();
     let kinds = TableDamage::all().filter(|&damage| damage != TOO_LONG);
-    contexts.extend(kinds.map(damaged));
+    contexts.extend(kinds.map(|damage| damaged(Edition::Bits64, damage)));
+    contexts.extend(narrow());
+    contexts.extend(limits::contexts());
     for (at, context) in contexts.iter_mut().enumerate() {
         context.name = format!("{:02}-{}", at + 1, context.name);
     }
@@ -52,6 +59,9 @@ pub fn contexts() -> Vec<Context> {
 }
 
 fn sound() -> Vec<Context> {
+    let placed = |seed, size, place, levels, usual| {
+        placed(Edition::Bits64, seed, size, place, levels, usual)
+    };
     let level = |index_levels| placed(7, [6, 40], RowsPlace::Item, index_levels, true);
     let named = [
         ("no-columns", no_columns()),
@@ -64,26 +74,61 @@ fn sound() -> Vec<Context> {
         ("index-level-1", level(1)),
         ("index-level-2", level(2)),
         ("index-level-3", level(3)),
-        ("cells", cells()),
+        ("cells", cells(Edition::Bits64)),
         ("unsorted", unsorted()),
         (
             "odd",
             placed(5, [17, 4], RowsPlace::Subnode(0x8011), 1, false),
         ),
     ];
-    let context = |(name, placed): (&str, PlacedTable)| Context {
+    named.into_iter().map(context_of).collect()
+}
+
+fn context_of((name, placed): (&str, PlacedTable)) -> Context {
+    Context {
         name: name.into(),
+        edition: placed.edition,
         rows: match placed.table.rows {
             Rows::Subnode(_) => Some(placed.rows),
             _ => None,
         },
         block: placed.block,
-    };
-    named.into_iter().map(context).collect()
+    }
+}
+
+/// Tables of files of 32 bits: of all depths of the row index, and with damage to it.
+fn narrow() -> Vec<Context> {
+    let edition = Edition::Bits32;
+    let level = |levels| placed(edition, 7, [6, 40], RowsPlace::Item, levels, true);
+    let sound = [
+        ("cells", cells(edition)),
+        ("30-columns", real_size_of(edition)),
+        (
+            "rows-none",
+            placed(edition, 3, [9, 0], RowsPlace::None, 0, true),
+        ),
+        ("index-level-1", level(1)),
+        ("index-level-2", level(2)),
+        ("index-level-3", level(3)),
+    ];
+    let spoilt = [
+        TableDamage::IndexChild,
+        TableDamage::IndexEntrySize,
+        TableDamage::IndexPartRecord,
+        TableDamage::IndexKeyEqual,
+        TableDamage::IndexKeyAtEnd,
+    ];
+    let spoilt = spoilt.map(|damage| damaged(edition, damage));
+    let mut contexts: Vec<_> = sound.into_iter().map(context_of).chain(spoilt).collect();
+    for context in &mut contexts {
+        context.name = format!("bits32-{}", context.name);
+    }
+    contexts
 }
 
 /// A table of so many columns and rows.
 fn placed(
+    edition: Edition,
     seed: u64,
     [columns, rows]: [usize; 2],
     rows_place: RowsPlace,
@@ -91,6 +136,7 @@ fn placed(
     usual: bool,
 ) -> PlacedTable {
     let plan = TablePlan {
+        edition,
         columns,
         rows,
         rows_place,
@@ -154,10 +200,11 @@ fn three_rows(layout: &Layout) -> Vec<Vec<GivenCell>> {
     (0..3).map(row).collect()
 }
 
-fn cells() -> PlacedTable {
+fn cells(edition: Edition) -> PlacedTable {
     let layout = usual_layout(&TAGS);
     let rows = three_rows(&layout);
-    place_table(&mut Random::new(0), &given(layout, rows, RowsPlace::Item))
+    let given = given(layout, rows, RowsPlace::Item);
+    place_table_of(edition, &mut Random::new(0), &given)
 }
 
 /// Rows in a subnode's block, with all but one byte of a fourth row behind them.
@@ -183,14 +230,15 @@ fn unsorted() -> PlacedTable {
 }
 
 /// The first seed by which the damage shows in the report.
-fn damaged(damage: TableDamage) -> Context {
+fn damaged(edition: Edition, damage: TableDamage) -> Context {
     let refusal = damage.refusal();
     let name = format!("refusal-{refusal}-{damage:?}").to_lowercase();
-    let placed = cells();
+    let placed = cells(edition);
     let spoilt = (0..MOST_SEEDS).find_map(|seed| {
         let spoilt = spoil_table(&placed, damage, Side::Refused, &mut Random::new(seed))?;
         let context = Context {
             name: name.clone(),
+            edition,
             block: spoilt.block,
             rows: None,
         };

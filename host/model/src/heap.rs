@@ -1,10 +1,10 @@
-//! A heap on one decoded block (01, Heap and properties; 003, 2.3.1).
+//! A heap on one decoded block of either edition (01, Heap and properties; 02, 7/13; 003, 2.3.1).
 
 use crate::bytes::{u16_at, u32_at};
 use crate::refusal::{Answer, Refusal};
 
 pub const LEAST_HEAP: usize = 12;
-pub const MOST_HEAP: usize = 8176;
+pub const MOST_HEAP: usize = 8180;
 pub const HEAP_MARK: u8 = 0xEC;
 pub const MOST_ITEMS: usize = 2047;
 

@@ -1,8 +1,10 @@
 //! A choice of small images, the same each time: some of each method and depth, damaged ones that
 //! together reach every refusal, those that turn on bit 0 of a block's number, those in which keys are
-//! out of order or out of range, those for a list of nodes, and those that turn on where the file ends.
+//! out of order or out of range, those for a list of nodes, those that turn on where the file ends, and
+//! those of the edition of 32 bits.
 
 mod bit_0;
+mod editions;
 mod end;
 mod keys;
 mod lists;
@@ -14,6 +16,7 @@ use crate::bytes::put;
 use crate::coding::{encode, CYCLIC, NONE, PERMUTE};
 use crate::damage::heap::{spoil_heap, HeapDamage};
 use crate::damage::{spoil, Damage};
+use crate::edition::Edition;
 use crate::header::LEAST_IMAGE;
 use crate::random::Random;
 use crate::refusal::Answer;
@@ -38,10 +41,13 @@ const MOST_ASKED: usize = 6;
 /// The image of that depth in which two keys of an index page are equal without bit 0.
 const TWIN_KEYS: &str = "permute-level-2";
 
-/// Refusal, kind of damage, sealed, and a seed by which the one leads to the other. The low key is out
-/// of range, which is 21. The child that 12 stands for is listed with bit 0 the other way, so that it is
-/// read all the same.
-const DAMAGED: &[(u64, Damage, bool, u64)] = &[
+/// Refusal, kind of damage, sealed, and a seed by which the one leads to the other.
+type Kind = (u64, Damage, bool, u64);
+
+/// The low key is out of range, which is 21. The child that 12 stands for is listed with bit 0 the other
+/// way, so that it is read all the same. The version is 14, that of a header whose sentinel stands
+/// elsewhere, which is 5.
+const DAMAGED: &[Kind] = &[
     (2, Damage::Magic, true, 0),
     (2, Damage::ClientMagic, true, 0),
     (3, Damage::Version, true, 0),
@@ -76,27 +82,25 @@ const DAMAGED_HEAPS: &[(u64, HeapDamage, u64)] = &[
 pub fn images() -> Vec<Image> {
     let mut images = shapes();
     images.push(short_image());
-    images.extend(
-        DAMAGED
-            .iter()
-            .map(|&(number, damage, sealed, seed)| damaged(number, damage, sealed, seed)),
-    );
+    images.extend(DAMAGED.iter().map(|kind| damaged(Edition::Bits64, *kind)));
     images.push(short_buffer());
     images.extend(
         DAMAGED_HEAPS
             .iter()
             .map(|&(number, damage, seed)| damaged_heap(number, damage, seed)),
     );
-    images.extend(bit_0::images());
-    images.extend(keys::images());
-    images.extend(lists::images());
-    images.extend(end::images());
+    images.extend(bit_0::images(Edition::Bits64));
+    images.extend(keys::images(Edition::Bits64));
+    images.extend(lists::images(Edition::Bits64));
+    images.extend(end::images(Edition::Bits64));
+    images.extend(editions::images());
     images
 }
 
 /// A few nodes of each sort in little space.
-fn base(method: u8, level: u8, index_levels: u8) -> Plan {
+fn base(edition: Edition, method: u8, level: u8, index_levels: u8) -> Plan {
     Plan {
+        edition,
         method,
         node_level: level,
         block_level: level,
@@ -126,7 +130,10 @@ fn shapes() -> Vec<Image> {
     let empty = build(1, &Plan::default());
     let mut images = vec![image_of("empty", empty.image.clone(), &empty)];
     for (name, method, level, index_levels) in shapes {
-        let built = build(u64::from(level) + 2, &base(method, level, index_levels));
+        let built = build(
+            u64::from(level) + 2,
+            &base(Edition::Bits64, method, level, index_levels),
+        );
         let bytes = if name == TWIN_KEYS {
             spoil(&built, Damage::KeyTwin, true, &mut Random::new(0)).image
         } else {
@@ -172,8 +179,8 @@ fn asked(known: &[u64], first: &[u64]) -> Vec<u64> {
     asked
 }
 
-fn damaged(number: u64, damage: Damage, sealed: bool, seed: u64) -> Image {
-    let built = build(number, &base((number % 3) as u8, 1, 0));
+fn damaged(edition: Edition, (number, damage, sealed, seed): Kind) -> Image {
+    let built = build(number, &base(edition, (number % 3) as u8, 1, 0));
     let name = format!("refusal-{number}-{damage:?}").to_lowercase();
     let mut spoilt = spoil(&built, damage, sealed, &mut Random::new(seed));
     if number <= 5 {
@@ -186,7 +193,7 @@ fn damaged(number: u64, damage: Damage, sealed: bool, seed: u64) -> Image {
 }
 
 fn short_image() -> Image {
-    let built = build(1, &base(NONE, 0, 0));
+    let built = build(1, &base(Edition::Bits64, NONE, 0, 0));
     image_of(
         "refusal-1-short",
         built.image[..LEAST_IMAGE - 1].to_vec(),
@@ -195,7 +202,7 @@ fn short_image() -> Image {
 }
 
 fn short_buffer() -> Image {
-    let built = build(17, &base(CYCLIC, 1, 0));
+    let built = build(17, &base(Edition::Bits64, CYCLIC, 1, 0));
     let needed = built.nodes.iter().map(|node| built.data(node).len()).max();
     let mut image = image_of("refusal-17-buffer", built.image.clone(), &built);
     image.buffer = needed.unwrap_or(1) - 1;
@@ -204,7 +211,7 @@ fn short_buffer() -> Image {
 
 /// An image whose property context is spoilt, and its block sealed again.
 fn damaged_heap(number: u64, damage: HeapDamage, seed: u64) -> Image {
-    let built = build(number, &base((number % 3) as u8, 0, 1));
+    let built = build(number, &base(Edition::Bits64, (number % 3) as u8, 0, 1));
     let name = format!("refusal-{number}-{damage:?}").to_lowercase();
     let heaps = built.heaps.first_key_value();
     let (&node, heap) = heaps.expect("a property context");

@@ -1,14 +1,13 @@
-//! Nodes and their data (01, Blocks and their encoding: "Node data"). `file` is an image up to where the
-//! file ends, under a header that has been accepted.
+//! Nodes and their data (01, Blocks and their encoding: "Node data"; 02, 7/13). `file` is an image up to
+//! where the file ends, under a header that has been accepted.
 
 use crate::block::{is_internal, Tested};
-use crate::bytes::{u16_at, u32_at, u64_at};
+use crate::bytes::{u16_at, u32_at};
+use crate::edition::Layout;
 use crate::header::{file, header, Header};
 use crate::page::Tree;
 use crate::refusal::{demand, Answer, Refusal};
 use crate::tree::{self, Lookup};
-
-pub const MOST_CHILDREN: usize = 1021;
 
 /// A node as the NBT lists it.
 #[derive(Clone, Copy, PartialEq, Eq, Debug)]
@@ -25,23 +24,24 @@ pub fn find_node(image: &[u8], node: u64) -> Answer<Lookup<Node>> {
 }
 
 pub(crate) fn look_up(file: &[u8], header: &Header, node: u64) -> Answer<Lookup<Node>> {
-    Ok(tree::find(file, header, Tree::Nodes, node)?.map(listed))
+    let found = tree::find(file, header, Tree::Nodes, node)?;
+    Ok(found.map(|entry| listed(entry, header.edition.layout())))
 }
 
 pub fn next_node(image: &[u8], from: u64) -> Answer<Lookup<Node>> {
     let header = header(image)?;
     let from = Tree::Nodes.key(from);
-    Ok(tree::next(file(image), &header, Tree::Nodes, from)?.map(listed))
+    let found = tree::next(file(image), &header, Tree::Nodes, from)?;
+    Ok(found.map(|entry| listed(entry, header.edition.layout())))
 }
 
 /// The number of bytes put at the front of `out`; None where the node is absent.
 pub fn read_node(image: &[u8], node: u64, out: &mut [u8]) -> Answer<Option<usize>> {
     let header = header(image)?;
     let file = file(image);
-    let Some(entry) = tree::find(file, &header, Tree::Nodes, node)?.found() else {
+    let Some(Node { data, .. }) = look_up(file, &header, node)?.found() else {
         return Ok(None);
     };
-    let data = listed(entry).data;
     // With or without bit 0, it names no block.
     if matches!(data, 0 | 1) {
         return Ok(Some(0));
@@ -57,12 +57,13 @@ pub fn read_node(image: &[u8], node: u64, out: &mut [u8]) -> Answer<Option<usize
     Ok(Some(needed))
 }
 
-fn listed(entry: &[u8]) -> Node {
+fn listed(entry: &[u8], layout: &Layout) -> Node {
+    let width = layout.width;
     Node {
         node: u32_at(entry, 0),
-        data: u64_at(entry, 8),
-        subnode: u64_at(entry, 16),
-        parent: u32_at(entry, 24),
+        data: layout.number_at(entry, width),
+        subnode: layout.number_at(entry, 2 * width),
+        parent: u32_at(entry, 3 * width),
     }
 }
 
@@ -73,7 +74,8 @@ fn data_blocks<'a>(file: &'a [u8], header: &Header, data: u64) -> Answer<Vec<Tes
         return Ok(vec![root]);
     }
     let place = root.listed.offset;
-    let numbers = child_numbers(root.stored).ok_or(Refusal::new(16, place))?;
+    let layout = header.edition.layout();
+    let numbers = child_numbers(root.stored, layout).ok_or(Refusal::new(16, place))?;
     let children = numbers
         .map(|number| Tested::new(file, header, number))
         .collect::<Answer<Vec<_>>>()?;
@@ -83,15 +85,16 @@ fn data_blocks<'a>(file: &'a [u8], header: &Header, data: u64) -> Answer<Vec<Tes
 }
 
 /// None where the shape is wrong by its own bytes.
-fn child_numbers(tree: &[u8]) -> Option<impl Iterator<Item = u64> + '_> {
+fn child_numbers<'a>(tree: &'a [u8], layout: &'a Layout) -> Option<impl Iterator<Item = u64> + 'a> {
     if tree.len() < 8 {
         return None;
     }
     let count = usize::from(u16_at(tree, 2));
     let shaped = tree[0] == 1
         && tree[1] == 1
-        && (1..=MOST_CHILDREN).contains(&count)
-        && tree.len() == 8 + 8 * count;
-    let numbers = tree[8..].chunks_exact(8).map(|child| u64_at(child, 0));
+        && (1..=layout.most_children).contains(&count)
+        && tree.len() == 8 + layout.width * count;
+    let children = tree[8..].chunks_exact(layout.width);
+    let numbers = children.map(|child| layout.number_at(child, 0));
     (shaped && !numbers.clone().any(is_internal)).then_some(numbers)
 }

@@ -1,8 +1,8 @@
-//! One page and its full check (01, Pages and trees; 02, 2/13 and 6/13; 003, 2.2.2.7).
+//! One page and its full check (01, Pages and trees; 02, 2/13, 6/13 and 7/13; 003, 2.2.2.7).
 
-use crate::bytes::{u16_at, u32_at, u64_at};
+use crate::bytes::{u16_at, u32_at};
 use crate::checksum::{checksum, signature};
-use crate::header::{reference_at, Reference};
+use crate::edition::{Layout, Reference};
 use crate::refusal::{demand, Answer, Refusal};
 
 pub const PAGE: usize = 512;
@@ -32,22 +32,6 @@ impl Tree {
             Tree::Blocks => number & !1,
         }
     }
-
-    pub fn entry_size(self, level: u8) -> usize {
-        if self == Tree::Nodes && level == 0 {
-            32
-        } else {
-            24
-        }
-    }
-
-    pub fn most_entries(self, level: u8) -> usize {
-        if self == Tree::Nodes && level == 0 {
-            15
-        } else {
-            20
-        }
-    }
 }
 
 /// The keys that a page may hold; no end means that every key from `low` on is allowed.
@@ -68,6 +52,7 @@ impl Range {
 /// A page that is still to be read: where it stands and what it must be.
 #[derive(Clone, Copy, Debug)]
 pub struct Sought {
+    pub layout: &'static Layout,
     pub reference: Reference,
     /// None at the root, where any level is allowed.
     pub level: Option<u8>,
@@ -78,6 +63,7 @@ pub struct Sought {
 #[derive(Clone, Copy, Debug)]
 pub struct Page<'a> {
     bytes: &'a [u8],
+    layout: &'static Layout,
     tree: Tree,
     place: u64,
     range: Range,
@@ -97,23 +83,23 @@ impl<'a> Page<'a> {
     /// A page whose keys are still to be tested.
     pub fn shaped(file: &'a [u8], tree: Tree, sought: Sought) -> Answer<Self> {
         let place = sought.reference.offset;
+        let layout = sought.layout;
         demand(offset_allowed(file, place), 6, place)?;
         let bytes = &file[place as usize..place as usize + PAGE];
-        demand(
-            bytes[496] == tree.kind() && bytes[497] == tree.kind(),
-            7,
-            place,
-        )?;
-        demand(is_numbered(bytes, sought.reference), 8, place)?;
-        demand(u32_at(bytes, 500) == checksum(&bytes[..496]), 9, place)?;
-        demand(counts_right(bytes, tree, sought.level), 10, place)?;
+        demand(is_of_kind(bytes, layout, tree), 7, place)?;
+        demand(is_numbered(bytes, layout, sought.reference), 8, place)?;
+        let sum = checksum(&bytes[..layout.page.summed]);
+        demand(u32_at(bytes, layout.page.sum) == sum, 9, place)?;
+        demand(counts_right(bytes, layout, tree, sought.level), 10, place)?;
+        let [count, _, _, level] = counts(bytes, layout);
         Ok(Page {
             bytes,
+            layout,
             tree,
             place,
             range: sought.range,
-            level: bytes[491],
-            count: usize::from(bytes[488]),
+            level,
+            count: usize::from(count),
         })
     }
 
@@ -140,13 +126,17 @@ impl<'a> Page<'a> {
     }
 
     pub fn entry(&self, at: usize) -> &'a [u8] {
-        let size = self.tree.entry_size(self.level);
+        let size = self.entry_size();
         &self.bytes[at * size..(at + 1) * size]
     }
 
+    fn entry_size(&self) -> usize {
+        self.layout.entries(self.tree, self.level).size
+    }
+
     pub fn key(&self, at: usize) -> u64 {
-        let size = self.tree.entry_size(self.level);
-        self.tree.key(u64_at(self.bytes, at * size))
+        let stored = self.layout.number_at(self.bytes, at * self.entry_size());
+        self.tree.key(stored)
     }
 
     /// The child that an entry of an index page names; None in a leaf.
@@ -157,8 +147,9 @@ impl<'a> Page<'a> {
             self.range.end
         };
         Some(Sought {
+            layout: self.layout,
             level: Some(self.level.checked_sub(1)?),
-            reference: reference_at(self.entry(at), 8),
+            reference: self.layout.reference_at(self.entry(at), self.layout.width),
             range: Range {
                 low: self.key(at),
                 end,
@@ -183,16 +174,28 @@ fn offset_allowed(file: &[u8], offset: u64) -> bool {
     offset.is_multiple_of(STEP) && offset >= FIRST_OFFSET && inside
 }
 
-fn is_numbered(bytes: &[u8], reference: Reference) -> bool {
-    u64_at(bytes, 504) == reference.number
-        && u16_at(bytes, 498) == signature(reference.offset, reference.number)
+fn is_of_kind(bytes: &[u8], layout: &Layout, tree: Tree) -> bool {
+    let at = layout.page.kinds;
+    bytes[at..at + 2] == [tree.kind(); 2]
 }
 
-fn counts_right(bytes: &[u8], tree: Tree, level: Option<u8>) -> bool {
-    let [count, room, size, own] = [bytes[488], bytes[489], bytes[490], bytes[491]];
+fn is_numbered(bytes: &[u8], layout: &Layout, reference: Reference) -> bool {
+    let Reference { number, offset } = reference;
+    layout.number_at(bytes, layout.page.number) == number
+        && u16_at(bytes, layout.page.signature) == signature(offset, number)
+}
+
+/// Count, room, entry size and level.
+fn counts(bytes: &[u8], layout: &Layout) -> [u8; 4] {
+    [0, 1, 2, 3].map(|at| bytes[layout.page.counts + at])
+}
+
+fn counts_right(bytes: &[u8], layout: &Layout, tree: Tree, level: Option<u8>) -> bool {
+    let [count, room, size, own] = counts(bytes, layout);
+    let entries = layout.entries(tree, own);
     let least = u8::from(level.is_some() || own > 0);
     level.map_or(own <= MOST_LEVEL, |level| own == level)
-        && usize::from(size) == tree.entry_size(own)
-        && usize::from(room) <= tree.most_entries(own)
+        && usize::from(size) == entries.size
+        && usize::from(room) <= entries.most
         && (least..=room).contains(&count)
 }

@@ -59,8 +59,14 @@ impl Asked<'_> {
         let header = crate::header(self.image).map(|header| {
             let (nodes, blocks) = (header.nodes, header.blocks);
             format!(
-                "method {}, nodes {:x} at {:x}, blocks {:x} at {:x}, end {}",
-                header.method, nodes.number, nodes.offset, blocks.number, blocks.offset, header.end
+                "method {}, nodes {:x} at {:x}, blocks {:x} at {:x}, end {}, edition {}",
+                header.method,
+                nodes.number,
+                nodes.offset,
+                blocks.number,
+                blocks.offset,
+                header.end,
+                header.edition.bits()
             )
         });
         self.say("header", or_refusal(header));

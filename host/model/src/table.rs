@@ -1,4 +1,4 @@
-//! Table contexts whose heap and rows lie in one block each (02, 5/13; 003, 2.3.4).
+//! Table contexts whose heap and rows lie in one block each (02, 5/13 and 7/13; 003, 2.3.4).
 
 mod shape;
 
@@ -6,7 +6,7 @@ use crate::refusal::{demand, Answer, Refusal};
 use shape::Tested;
 
 pub const TABLE: u8 = 0x7C;
-pub const MOST_ROWS: usize = 8176;
+pub const MOST_ROWS: usize = 8180;
 
 /// The words of one place of the result area: those of a cell's answer.
 pub const WORDS: usize = 6;
@@ -74,7 +74,12 @@ pub fn cell(block: &[u8], rows: &[u8], row: u32, tag: u32) -> Answer<Option<Cell
 
 /// The number of the row that has this id, as the row index says.
 pub fn find_row(block: &[u8], id: u32) -> Answer<Option<u32>> {
-    Tested::new(block)?.find_row(id)
+    Tested::new(block)?.find_row::<4>(id)
+}
+
+/// The same in a table of a 32-bit file, whose row index has numbers of two bytes.
+pub fn find_row32(block: &[u8], id: u32) -> Answer<Option<u32>> {
+    Tested::new(block)?.find_row::<2>(id)
 }
 
 /// Puts what `cell` answers for each column into the place of that column, and answers the number of

@@ -1,7 +1,7 @@
 //! Whole-tree check, lookup and listing (01, Pages and trees). `file` is an image up to where the file
 //! ends, under a header that has been accepted.
 
-use crate::header::{file, header, Header, Reference};
+use crate::header::{file, header, Header};
 use crate::page::{Page, Range, Sought, Tree};
 use crate::refusal::Answer;
 
@@ -33,27 +33,25 @@ impl<T> Lookup<T> {
 
 pub fn check_nodes(image: &[u8]) -> Answer<()> {
     let header = header(image)?;
-    check_under(file(image), Tree::Nodes, root(header.nodes))
+    check_under(file(image), Tree::Nodes, root_of(&header, Tree::Nodes))
 }
 
 pub fn check_blocks(image: &[u8]) -> Answer<()> {
     let header = header(image)?;
-    check_under(file(image), Tree::Blocks, root(header.blocks))
+    check_under(file(image), Tree::Blocks, root_of(&header, Tree::Blocks))
 }
 
-fn root(reference: Reference) -> Sought {
+/// The root page that an accepted header names.
+pub fn root_of(header: &Header, tree: Tree) -> Sought {
     Sought {
-        reference,
+        layout: header.edition.layout(),
+        reference: match tree {
+            Tree::Nodes => header.nodes,
+            Tree::Blocks => header.blocks,
+        },
         level: None,
         range: Range::ALL,
     }
-}
-
-pub(crate) fn root_of(header: &Header, tree: Tree) -> Sought {
-    root(match tree {
-        Tree::Nodes => header.nodes,
-        Tree::Blocks => header.blocks,
-    })
 }
 
 /// The page, then its children from left to right, each with everything under it.

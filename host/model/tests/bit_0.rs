@@ -4,9 +4,10 @@ use model::build::bit_0::{
     data_one, data_one_alone, data_trees, highest, index_keys, listed, page_number, range_end,
     ticket, trailers, twins,
 };
-use model::build::seal::{seal_block, seal_header, seal_page, trailer_at};
+use model::build::seal::{seal_block, seal_header, seal_page};
 use model::build::{build, build_small_loose, Built, PlacedBlock, PlacedPage, Plan};
 use model::coding::CYCLIC;
+use model::edition::Edition;
 use model::images::images;
 use model::page::Tree;
 use model::{
@@ -56,7 +57,7 @@ fn with_key(built: &Built, page: &PlacedPage, at: usize, key: u64) -> Vec<u8> {
     let mut image = built.image.clone();
     put(
         &mut image,
-        page.offset + page.tree.entry_size(page.level) * at,
+        page.offset + built.layout().entries(page.tree, page.level).size * at,
         key,
     );
     seal_page(&mut image, page.offset);
@@ -99,7 +100,7 @@ fn sought_either_way() {
 
 #[test]
 fn file_of_the_ticket() {
-    let built = ticket();
+    let built = ticket(Edition::Bits64);
     let heap = &built.heaps[&0x8022];
     assert_eq!(built.nodes[0].data, 0x1519);
     assert_eq!(built.block_numbers(), [0x1518]);
@@ -126,7 +127,7 @@ fn file_of_the_ticket() {
 
 #[test]
 fn equal_keys_in_a_leaf() {
-    let built = twins();
+    let built = twins(Edition::Bits64);
     let leaf = leaf_of(&built, Tree::Blocks, 0x1519);
     assert_eq!(leaf.keys, [0x1518, 0x1519]);
     assert_eq!(check_blocks(&built.image), out_of_order(leaf, 1));
@@ -150,7 +151,7 @@ fn equal_keys_in_a_leaf() {
 
 #[test]
 fn equal_keys_in_an_index_page() {
-    let built = index_keys();
+    let built = index_keys(Edition::Bits64);
     let page = root(&built, Tree::Blocks);
     assert_eq!(page.keys, [0x101, 0x109]);
     for (first, second) in [(0x101, 0x100), (0x100, 0x101), (0x108, 0x109)] {
@@ -201,7 +202,7 @@ fn nodes_keep_all_bits() {
 /// A range begins and ends at cleared keys.
 #[test]
 fn ranges_of_cleared_keys() {
-    let built = range_end();
+    let built = range_end(Edition::Bits64);
     let (page, leaf) = (
         root(&built, Tree::Blocks),
         leaf_of(&built, Tree::Blocks, 0x104),
@@ -259,7 +260,7 @@ fn ranges_of_nodes() {
 
 #[test]
 fn index_keys_with_the_bit() {
-    let built = index_keys();
+    let built = index_keys(Edition::Bits64);
     let image = &built.image;
     assert_eq!(check_blocks(image), Ok(()));
     for block in &built.blocks {
@@ -281,7 +282,7 @@ fn index_keys_with_the_bit() {
 /// `from` counts with bit 0, the keys without: also where in an index page to start.
 #[test]
 fn listing_from_a_number() {
-    let built = index_keys();
+    let built = index_keys(Edition::Bits64);
     let cases = [
         (0, 3, 0x100),
         (0xFF, 3, 0x100),
@@ -305,7 +306,7 @@ fn listing_from_a_number() {
         next_block(&built.image, 0x115),
         Ok(Lookup::Absent { pages: 3 })
     );
-    let listed = listed(0);
+    let listed = listed(Edition::Bits64, 0);
     let next = |from| {
         let found = next_block(&listed.image, from).map(Lookup::found);
         found.map(|found| found.map(|block| block.block))
@@ -340,7 +341,7 @@ fn listing_goes_through_once() {
 
 #[test]
 fn highest_numbers() {
-    let built = highest();
+    let built = highest(Edition::Bits64);
     let image = &built.image;
     let [low, high] = [&built.blocks[0], &built.blocks[1]];
     assert_eq!(built.block_numbers(), [u64::MAX - 2, u64::MAX]);
@@ -371,7 +372,7 @@ fn highest_numbers() {
 
 #[test]
 fn children_either_way() {
-    let built = data_trees();
+    let built = data_trees(Edition::Bits64);
     assert_eq!(built.block_numbers(), [0x20, 0x24, 0x29, 0x2D, 0x33, 0x36]);
     assert_eq!(built.trees[&0x33], [0x21, 0x25, 0x28, 0x2D, 0x20]);
     for node in &built.nodes {
@@ -384,7 +385,7 @@ fn children_either_way() {
 #[test]
 fn listed_with_the_bit() {
     for method in 0..3 {
-        let built = listed(method);
+        let built = listed(Edition::Bits64, method);
         let block = &built.blocks[0];
         assert_eq!((block.number, block.data.len()), (0x1519, 300));
         for node in &built.nodes {
@@ -403,7 +404,7 @@ fn listed_with_the_bit() {
 
 #[test]
 fn trailers_of_the_other_number() {
-    let built = trailers();
+    let built = trailers(Edition::Bits64);
     let image = &built.image;
     for block in &built.blocks[..2] {
         assert_eq!(read(image, block.number), Ok(block.data.clone()));
@@ -428,9 +429,9 @@ fn trailers_of_the_other_number() {
 
 #[test]
 fn every_bit_of_a_trailers_number() {
-    for built in [ticket(), listed(1)] {
+    for built in [ticket(Edition::Bits64), listed(Edition::Bits64, 1)] {
         let block = &built.blocks[0];
-        let place = trailer_at(block.offset, block.size) + 8;
+        let place = built.layout().trailer_at(block.offset, block.size) + 8;
         for bit in 0..64 {
             for also in [0, 1] {
                 let mut image = built.image.clone();
@@ -449,21 +450,21 @@ fn every_bit_of_a_trailers_number() {
 /// A listed number with bit 0 the other way asks for another signature.
 #[test]
 fn signature_of_the_listed_number() {
-    let built = ticket();
+    let built = ticket(Edition::Bits64);
     let block = &built.blocks[0];
     let mut image = with_key(&built, root(&built, Tree::Blocks), 0, 0x1519);
     let refusal = Refusal::new(14, block.offset as u64);
     assert_eq!(test_block(&image, 0x1518), Err(refusal));
     seal_block(&mut image, block.offset, block.size, 0x1519);
     assert_eq!(test_block(&image, 0x1518), Ok(block.size));
-    let trailer = trailer_at(block.offset, block.size);
+    let trailer = built.layout().trailer_at(block.offset, block.size);
     put(&mut image, trailer + 8, 0x1518);
     assert_eq!(test_block(&image, 0x1518), Ok(block.size));
 }
 
 #[test]
 fn data_block_one() {
-    let built = data_one();
+    let built = data_one(Edition::Bits64);
     let image = &built.image;
     assert_eq!(built.blocks[0].number, 1);
     for node in [0x8022, 0x8042] {
@@ -496,7 +497,7 @@ fn data_block_one() {
 
 #[test]
 fn child_one_that_is_not_listed() {
-    let built = data_one();
+    let built = data_one(Edition::Bits64);
     let (leaf, tree) = (root(&built, Tree::Blocks), &built.blocks[2]);
     let mut image = with_key(&built, leaf, 0, 4);
     assert_eq!(node_bytes(&image, 0x8062), Err(Refusal::new(12, 0)));
@@ -509,7 +510,7 @@ fn child_one_that_is_not_listed() {
 /// The BBT is not looked at for it.
 #[test]
 fn data_block_one_and_no_block_tree() {
-    let built = data_one_alone();
+    let built = data_one_alone(Edition::Bits64);
     let page = root(&built, Tree::Blocks);
     assert_eq!(check_blocks(&built.image), refused(7, page));
     for node in [0x8022, 0x8042] {
@@ -529,11 +530,11 @@ fn data_block_one_and_no_block_tree() {
 
 #[test]
 fn page_numbers_keep_all_bits() {
-    let built = page_number();
+    let built = page_number(Edition::Bits64);
     let page = root(&built, Tree::Blocks);
     assert_eq!(check_blocks(&built.image), refused(8, page));
     assert_eq!(find_block(&built.image, 4), refused(8, page));
-    let built = index_keys();
+    let built = index_keys(Edition::Bits64);
     let (page, leaf) = (
         root(&built, Tree::Blocks),
         leaf_of(&built, Tree::Blocks, 0x100),

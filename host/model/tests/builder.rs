@@ -1,8 +1,8 @@
 //! Every built image is accepted, and everything placed in it is read back.
 
 use model::build::heaps::{property_context, HeapPlan, PlacedHeap};
-use model::build::seal::trailer_at;
-use model::build::{build, build_small, build_small_loose, without_bit_0, Built, Plan, MOST_SMALL};
+use model::build::{build, build_small_of, without_bit_0, Built, Plan, MOST_SMALL};
+use model::edition::Edition;
 use model::page::Tree;
 use model::random::Random;
 use model::{Block, Lookup, Refusal};
@@ -12,9 +12,11 @@ fn assert_read_back(built: &Built) {
     let image = &built.image;
     assert_eq!(model::check_nodes(image), Ok(()));
     assert_eq!(model::check_blocks(image), Ok(()));
+    let header = model::header(image).expect("a header");
+    assert_eq!(header.edition, built.edition);
     assert_eq!(
-        model::header(image).map(|header| (header.method, header.end)),
-        Ok((built.method, image.len() as u64))
+        (header.method, header.end),
+        (built.method, image.len() as u64)
     );
     assert_nodes_read_back(built);
     assert_blocks_read_back(built);
@@ -113,13 +115,30 @@ fn assert_listing(built: &Built) {
 
 #[test]
 fn small_images() {
-    for seed in 0..300 {
-        let built = build_small(seed);
+    for (edition, seed) in editions(300) {
+        let built = build_small_of(edition, seed, false);
         assert!(built.image.len() <= MOST_SMALL);
         assert_read_back(&built);
         assert_listing(&built);
-        assert_eq!(built.image, build_small(seed).image);
+        assert_eq!(built.image, build_small_of(edition, seed, false).image);
     }
+}
+
+/// So many seeds for each edition.
+fn editions(seeds: u64) -> impl Iterator<Item = (Edition, u64)> {
+    let of = move |edition| (0..seeds).map(move |seed| (edition, seed));
+    Edition::BOTH.into_iter().flat_map(of)
+}
+
+#[test]
+fn versions_of_small_images() {
+    let version = |edition, seed| {
+        let image = build_small_of(edition, seed, false).image;
+        u16::from_le_bytes([image[10], image[11]])
+    };
+    let of = |edition| (0..40).map(move |seed| version(edition, seed)).collect();
+    let [wide, narrow]: [BTreeSet<_>; 2] = Edition::BOTH.map(of);
+    assert_eq!((wide, narrow), ([23].into(), [14, 15].into()));
 }
 
 /// Where the number of a placed block stands, and there differs from the listed one in bit 0.
@@ -130,8 +149,9 @@ fn other_bits(built: &Built) -> [usize; 4] {
     };
     let named = built.nodes.iter().map(|node| node.data);
     let in_trailers = built.blocks.iter().map(|block| {
-        let trailer = trailer_at(block.offset, block.size);
-        u64::from_le_bytes(built.image[trailer + 8..trailer + 16].try_into().unwrap())
+        let layout = built.layout();
+        let trailer = layout.trailer_at(block.offset, block.size);
+        layout.number_at(&built.image, trailer + layout.trailer.number)
     });
     let index_pages = built
         .pages
@@ -158,8 +178,8 @@ fn other_bits(built: &Built) -> [usize; 4] {
 fn loose_images() {
     let mut seen = [0; 4];
     let mut ones = 0;
-    for seed in 0..300 {
-        let built = build_small_loose(seed);
+    for (edition, seed) in editions(300) {
+        let built = build_small_of(edition, seed, true);
         assert!(built.image.len() <= MOST_SMALL);
         assert_read_back(&built);
         assert_listing(&built);
@@ -167,17 +187,17 @@ fn loose_images() {
             *seen += more;
         }
         ones += built.nodes.iter().filter(|node| node.data == 1).count();
-        assert_eq!(other_bits(&build_small(seed)), [0; 4]);
+        assert_eq!(other_bits(&build_small_of(edition, seed, false)), [0; 4]);
     }
-    assert!(seen.iter().all(|&seen| seen > 100), "{seen:?}");
-    assert!(ones > 100, "{ones}");
+    assert!(seen.iter().all(|&seen| seen > 200), "{seen:?}");
+    assert!(ones > 200, "{ones}");
 }
 
 /// No two listed numbers are equal without bit 0, whatever is drawn.
 #[test]
 fn blocks_apart() {
-    for seed in 0..300 {
-        for built in [build_small(seed), build_small_loose(seed)] {
+    for (edition, seed) in editions(300) {
+        for built in [false, true].map(|loose| build_small_of(edition, seed, loose)) {
             let numbers = built.block_numbers().into_iter();
             let apart: BTreeSet<_> = numbers.map(without_bit_0).collect();
             assert_eq!(apart.len(), built.blocks.len(), "seed {seed}");
@@ -187,8 +207,10 @@ fn blocks_apart() {
 
 #[test]
 fn every_depth() {
-    for level in 0..=7 {
+    for (edition, level) in editions(8) {
+        let level = level as u8;
         let plan = Plan {
+            edition,
             method: level % 3,
             node_level: level,
             block_level: 7 - level,
@@ -220,47 +242,67 @@ fn most_in_index(plan: &Plan) -> Option<usize> {
 
 #[test]
 fn wide_index_pages() {
-    let narrow = Plan {
-        node_level: 2,
-        block_level: 2,
-        block_nodes: 14,
-        most_size: 60,
-        ..Plan::default()
-    };
-    let wide = Plan { wider: 3, ..narrow };
-    assert_eq!(most_in_index(&narrow), Some(3));
-    assert_eq!(most_in_index(&wide), Some(6));
+    for edition in Edition::BOTH {
+        let narrow = Plan {
+            edition,
+            node_level: 2,
+            block_level: 2,
+            block_nodes: 14,
+            most_size: 60,
+            ..Plan::default()
+        };
+        let wide = Plan { wider: 3, ..narrow };
+        assert_eq!(most_in_index(&narrow), Some(3));
+        assert_eq!(most_in_index(&wide), Some(6));
+    }
 }
 
 #[test]
 fn empty_trees() {
-    let built = build(1, &Plan::default());
-    assert_read_back(&built);
-    assert_eq!(
-        model::find_node(&built.image, 33),
-        Ok(Lookup::Absent { pages: 1 })
-    );
-    assert_eq!(
-        model::next_block(&built.image, 0),
-        Ok(Lookup::Absent { pages: 1 })
-    );
-    assert_eq!(model::test_block(&built.image, 4), Err(Refusal::new(12, 0)));
+    for edition in Edition::BOTH {
+        let plan = Plan {
+            edition,
+            ..Plan::default()
+        };
+        let built = build(1, &plan);
+        assert_read_back(&built);
+        assert_eq!(
+            model::find_node(&built.image, 33),
+            Ok(Lookup::Absent { pages: 1 })
+        );
+        assert_eq!(
+            model::next_block(&built.image, 0),
+            Ok(Lookup::Absent { pages: 1 })
+        );
+        assert_eq!(model::test_block(&built.image, 4), Err(Refusal::new(12, 0)));
+    }
 }
 
 #[test]
 fn large_image() {
-    let plan = Plan {
-        method: 2,
-        block_nodes: 400,
-        tree_nodes: 2,
-        most_size: 8176,
-        most_children: 1021,
-        property_nodes: 5,
-        properties: 60,
-        tidy: true,
-        ..Plan::default()
-    };
-    assert_read_back(&build(3, &plan));
+    for edition in Edition::BOTH {
+        let plan = Plan {
+            edition,
+            method: 2,
+            block_nodes: 400,
+            tree_nodes: 2,
+            most_size: usize::MAX,
+            most_children: usize::MAX,
+            property_nodes: 5,
+            properties: 60,
+            tidy: true,
+            ..Plan::default()
+        };
+        let built = build(3, &plan);
+        assert_read_back(&built);
+        let longest = built.blocks.iter().map(|block| block.size).max();
+        let children = built.trees.values().map(Vec::len).max();
+        let expected = match edition {
+            Edition::Bits64 => (Some(8176), Some(1021)),
+            Edition::Bits32 => (Some(8180), Some(2043)),
+        };
+        assert_eq!((longest, children), expected);
+    }
 }
 
 #[test]

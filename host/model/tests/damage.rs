@@ -1,15 +1,19 @@
-//! What damage to bit 0 of a number, or to the keys of a page, leads to.
+//! What damage to bit 0 of a number or to the keys of a page leads to, and damage by which one edition looks
+//! like the other.
 
-use model::build::{build_small_loose, Built, PlacedBlock};
+use model::build::{build_small_of, most_size_and_children, Built, PlacedBlock};
 use model::damage::{spoil, Damage, Spoilt};
+use model::edition::Edition;
 use model::random::Random;
-use model::{check_blocks, check_nodes, read_block, read_node, test_block};
+use model::{check_blocks, check_nodes, header, read_block, read_node, test_block, Lookup};
 use std::collections::BTreeSet;
 
-/// The damage, sealed, to some built images; those that it leaves as they are do not count.
+/// The damage, sealed, to some built images of both editions; those that it leaves as they are do not
+/// count.
 fn spoilt(damage: Damage) -> impl Iterator<Item = (Built, Spoilt)> {
-    (0..150).filter_map(move |seed| {
-        let built = build_small_loose(seed);
+    let seeds = (0..150).flat_map(|seed| Edition::BOTH.map(|edition| (edition, seed)));
+    seeds.filter_map(move |(edition, seed)| {
+        let built = build_small_of(edition, seed, true);
         let spoilt = spoil(&built, damage, true, &mut Random::new(seed));
         (spoilt.image != built.image).then_some((built, spoilt))
     })
@@ -76,6 +80,71 @@ fn order_and_range_of_keys() {
     assert_eq!(checked(Damage::KeyBelow), order.into());
     assert_eq!(checked(Damage::OrderThenRange), order.into());
     assert_eq!(checked(Damage::RangeThenOrder), range.into());
+}
+
+/// What the header answers in each edition as built: a refusal and its place, or the edition.
+fn headers(damage: Damage) -> BTreeSet<(Edition, u64, u64)> {
+    let answers = spoilt(damage).map(|(built, spoilt)| match header(&spoilt.image) {
+        Ok(said) => (built.edition, 0, said.edition.bits()),
+        Err(refusal) => (built.edition, refusal.number, refusal.place),
+    });
+    answers.collect()
+}
+
+#[test]
+fn headers_of_the_other_edition() {
+    use Edition::{Bits32, Bits64};
+    let other = [(Bits64, 0, 32), (Bits32, 0, 64)];
+    assert_eq!(headers(Damage::OtherEdition), other.into());
+    let sentinel = [(Bits64, 5, 512), (Bits32, 5, 460)];
+    assert_eq!(headers(Damage::OtherSentinel), sentinel.into());
+    // The roots of 32 bits stand where 64 bits have the end.
+    let roots = [(Bits64, 1, 184), (Bits32, 0, 32)];
+    assert_eq!(headers(Damage::OtherRoots), roots.into());
+    let end = [(Bits64, 0, 64), (Bits32, 0, 32)];
+    assert_eq!(headers(Damage::OtherEnd), end.into());
+    let versions = headers(Damage::Version);
+    let expected = [
+        (Bits64, 3, 10),
+        (Bits32, 3, 10),
+        (Bits32, 0, 32),
+        (Bits32, 5, 512),
+        (Bits64, 5, 460),
+    ];
+    assert!(versions.is_superset(&expected.into()), "{versions:?}");
+}
+
+#[test]
+fn pages_of_the_other_edition() {
+    assert_eq!(checked(Damage::OtherEdition), [(7, 7)].into());
+    assert_eq!(checked(Damage::OtherRoots), [(1, 1), (6, 6)].into());
+    assert_eq!(checked(Damage::OtherEnd), [(6, 6)].into());
+    assert_eq!(checked(Damage::OtherPage), [(0, 7), (7, 0)].into());
+    assert_eq!(checked(Damage::OtherPageSum), [(0, 9), (9, 0)].into());
+    assert_eq!(checked(Damage::EntriesOver), [(0, 10), (10, 0)].into());
+}
+
+#[test]
+fn trailers_of_the_other_edition() {
+    assert_eq!(tested(Damage::TrailerExchanged), [14].into());
+    // Where the other room ends before the trailer, it stays as it is.
+    let other = tested(Damage::OtherTrailer);
+    assert!(other.is_superset(&[0, 14].into()), "{other:?}");
+}
+
+#[test]
+fn sizes_about_the_most() {
+    let mut seen = BTreeSet::new();
+    for (built, spoilt) in spoilt(Damage::SizeAboutMost) {
+        let number = spoilt.blocks[0];
+        let found = model::find_block(&spoilt.image, number).map(Lookup::found);
+        let size = found.expect("a tree").expect("it is there").size;
+        let (most, _) = most_size_and_children(built.edition);
+        let expected = if usize::from(size) <= most { 0 } else { 13 };
+        assert_eq!(number_of(test_block(&spoilt.image, number)), expected);
+        seen.insert((built.edition, size));
+    }
+    assert_eq!(seen.len(), 2 * 7);
 }
 
 #[test]

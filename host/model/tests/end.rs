@@ -5,8 +5,9 @@ use model::build::end::{
     root_behind, too_high, zero,
 };
 use model::build::seal::{put_end, seal_header, set_end};
-use model::build::{build, build_small, build_small_loose, Built, PlacedPage, Plan};
+use model::build::{build, build_small_of, Built, PlacedPage, Plan};
 use model::damage::{spoil, Damage, END};
+use model::edition::Edition;
 use model::header::file;
 use model::nodes::WORDS;
 use model::page::Tree;
@@ -25,7 +26,12 @@ fn refused<T>(number: u64, place: usize) -> Answer<T> {
 
 /// A small image of two trees, with one page to each level.
 fn small() -> Built {
+    small_of(Edition::Bits64)
+}
+
+fn small_of(edition: Edition) -> Built {
     let plan = Plan {
+        edition,
         node_level: 2,
         block_level: 1,
         block_nodes: 4,
@@ -211,7 +217,7 @@ fn the_smaller_of_the_two() {
 
 #[test]
 fn no_page_before_zero() {
-    let built = zero();
+    let built = zero(Edition::Bits64);
     let image = &built.image;
     let said = header(image).expect("a header");
     let (nodes, blocks) = (said.nodes.offset, said.blocks.offset);
@@ -263,23 +269,28 @@ fn ends_before(old: usize, start: usize, stop: usize) -> impl Iterator<Item = u6
 /// A page that is sound in all but its place, to which its parent or the header leads.
 #[test]
 fn pages_around_the_end() {
-    let built = small();
-    let whole = answers(&built.image, &built);
+    for built in Edition::BOTH.map(small_of) {
+        assert_pages_around_the_end(&built);
+    }
+}
+
+fn assert_pages_around_the_end(built: &Built) {
+    let whole = answers(&built.image, built);
     let mut seen = 0;
     for page in &built.pages {
         let mut image = built.image.clone();
-        let start = move_page(&mut image, &built, page);
+        let start = move_page(&mut image, built, page);
         let stop = start + 512;
         assert_eq!(stop, image.len());
         image.extend_from_slice(&[0; 100]);
         for end in [stop, stop + 1, stop + 100] {
             let image = with_end(&image, end as u64);
-            assert_eq!(answers(&image, &built)[1..], whole[1..]);
+            assert_eq!(answers(&image, built)[1..], whole[1..]);
         }
         for end in ends_before(built.image.len(), start, stop) {
             let image = with_end(&image, end);
             assert_eq!(check(&image, page.tree), refused(6, start));
-            seen += assert_behind(&image, &built, page, start);
+            seen += assert_behind(&image, built, page, start);
         }
     }
     assert!(seen > 100, "{seen}");
@@ -317,23 +328,28 @@ fn assert_behind(image: &[u8], built: &Built, page: &PlacedPage, start: usize) -
 /// A block that is sound in all but its place, and listed there.
 #[test]
 fn blocks_around_the_end() {
-    let built = small();
+    for built in Edition::BOTH.map(small_of) {
+        assert_blocks_around_the_end(&built);
+    }
+}
+
+fn assert_blocks_around_the_end(built: &Built) {
     for block in &built.blocks {
         let mut image = built.image.clone();
-        let start = move_block(&mut image, &built, block);
+        let start = move_block(&mut image, built, block);
         let stop = image.len();
-        let moved = answers(&with_end(&image, stop as u64), &built);
+        let moved = answers(&with_end(&image, stop as u64), built);
         image.extend_from_slice(&[0; 100]);
         for end in [stop, stop + 1, stop + 100] {
             let image = with_end(&image, end as u64);
-            assert_eq!(answers(&image, &built)[1..], moved[1..]);
+            assert_eq!(answers(&image, built)[1..], moved[1..]);
             assert_eq!(test_block(&image, block.number), Ok(block.size));
         }
         for end in ends_before(built.image.len(), start, stop) {
             let image = with_end(&image, end);
             assert_eq!(check_nodes(&image), Ok(()));
             assert_eq!(check_blocks(&image), Ok(()));
-            assert_refused_block(&image, &built, block.number, start);
+            assert_refused_block(&image, built, block.number, start);
         }
     }
 }
@@ -401,14 +417,16 @@ fn assert_tail_alike(image: &[u8], built: &Built, random: &mut Random) {
 #[test]
 fn what_hangs_on() {
     let mut random = Random::new(6);
-    for seed in 0..40 {
-        let built = build_small(seed);
+    for seed in 0..80 {
+        let edition = Edition::BOTH[seed as usize % 2];
+        let built = build_small_of(edition, seed / 2, false);
         assert_tail_alike(&built.image, &built, &mut random);
-        let built = build_small_loose(seed);
+        let built = build_small_of(edition, seed / 2, true);
         for damage in END {
             for sealed in [false, true] {
                 let image = spoil(&built, *damage, sealed, &mut random).image;
-                let number = u64::from_le_bytes(image[184..192].try_into().unwrap());
+                let layout = edition.layout();
+                let number = layout.number_at(&image, layout.header.end);
                 if number <= image.len() as u64 {
                     assert_tail_alike(&image, &built, &mut random);
                 }
@@ -425,14 +443,14 @@ fn chosen_images() {
     let accepted = Ok(());
     let behind = refused(6, OLD_END);
     for (built, nodes, blocks) in [
-        (hanging_on(), accepted, accepted),
-        (root_behind(), behind, accepted),
-        (page_behind(), behind, accepted),
-        (page_over(64), accepted, behind),
-        (page_over(0), accepted, accepted),
-        (block_behind(), accepted, accepted),
-        (block_over(1), accepted, accepted),
-        (block_over(0), accepted, accepted),
+        (hanging_on(Edition::Bits64), accepted, accepted),
+        (root_behind(Edition::Bits64), behind, accepted),
+        (page_behind(Edition::Bits64), behind, accepted),
+        (page_over(Edition::Bits64, 64), accepted, behind),
+        (page_over(Edition::Bits64, 0), accepted, accepted),
+        (block_behind(Edition::Bits64), accepted, accepted),
+        (block_over(Edition::Bits64, 1), accepted, accepted),
+        (block_over(Edition::Bits64, 0), accepted, accepted),
     ] {
         let length = built.image.len() as u64;
         let end = header(&built.image).map(|header| header.end);
@@ -441,7 +459,7 @@ fn chosen_images() {
         assert_eq!(check_blocks(&built.image), blocks);
         assert_sound(&built, &with_end(&built.image, length));
     }
-    assert_eq!(header(&too_high().image), refused(1, 184));
+    assert_eq!(header(&too_high(Edition::Bits64).image), refused(1, 184));
 }
 
 /// All pages and blocks of the image are accepted.
@@ -456,9 +474,9 @@ fn assert_sound(built: &Built, image: &[u8]) {
 #[test]
 fn chosen_images_of_blocks() {
     for (built, expected) in [
-        (block_behind(), refused(13, OLD_END)),
-        (block_over(1), refused(13, OLD_END)),
-        (block_over(0), Ok(180)),
+        (block_behind(Edition::Bits64), refused(13, OLD_END)),
+        (block_over(Edition::Bits64, 1), refused(13, OLD_END)),
+        (block_over(Edition::Bits64, 0), Ok(180)),
     ] {
         assert_eq!(test_block(&built.image, 0x10C), expected);
         let read = read_node(&built.image, 0x8122, &mut [0; 800]);
@@ -470,8 +488,8 @@ fn chosen_images_of_blocks() {
 /// with that damage.
 fn led_to(damage: Damage, sealed: bool) -> Vec<u64> {
     let mut found = Vec::new();
-    for seed in 0..150 {
-        let built = build_small_loose(seed);
+    for seed in 0..300 {
+        let built = build_small_of(Edition::BOTH[seed as usize % 2], seed / 2, true);
         let image = spoil(&built, damage, sealed, &mut Random::new(seed)).image;
         let mut note = |answer: Answer<()>| found.extend(answer.err().map(|fault| fault.number));
         note(header(&image).map(|_| ()));

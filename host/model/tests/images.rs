@@ -20,18 +20,21 @@ const READ_ALL_THE_SAME: &str = "refusal-12-treechild";
 /// Its key at fault ascends, outside the range, which has a number of its own: 21.
 const OUTSIDE_THE_RANGE: &str = "refusal-11-keylow";
 
+/// Its version is one of 32 bits, and its sentinel stands where those have none: 5.
+const OTHER_VERSION: &str = "refusal-3-version";
+
 /// An image named for a refusal leads to it.
 #[test]
 fn refusals_by_name() {
     for image in images() {
-        let Some(rest) = image.name.strip_prefix("refusal-") else {
+        let Some((_, rest)) = image.name.split_once("refusal-") else {
             continue;
         };
         let (number, _) = rest.split_once('-').expect("a number and a word");
-        let number = if image.name == OUTSIDE_THE_RANGE {
-            21
-        } else {
-            number.parse().expect("a number")
+        let number = match &image.name[..] {
+            OUTSIDE_THE_RANGE => 21,
+            OTHER_VERSION => 5,
+            _ => number.parse().expect("a number"),
         };
         let refused = refusals(&image).contains(&number);
         assert_eq!(refused, image.name != READ_ALL_THE_SAME, "{}", image.name);

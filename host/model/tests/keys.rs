@@ -5,6 +5,7 @@ use model::build::keys::{
 };
 use model::build::seal::seal_page;
 use model::build::{build, Built, PlacedPage, Plan};
+use model::edition::{Edition, Entries};
 use model::page::{Page, Range, Sought, Tree};
 use model::{
     check_blocks, check_nodes, find_block, find_node, next_block, next_node, read_block, read_node,
@@ -19,14 +20,18 @@ fn put(image: &mut [u8], at: usize, number: u64) {
     image[at..at + 8].copy_from_slice(&number.to_le_bytes());
 }
 
+fn entries(tree: Tree, level: u8) -> Entries {
+    Edition::Bits64.layout().entries(tree, level)
+}
+
 /// A page of those keys, with nothing behind it.
 fn image_of(tree: Tree, level: u8, keys: &[u64]) -> Vec<u8> {
     let mut image = vec![0; PLACE + 512];
-    let size = tree.entry_size(level);
+    let Entries { size, most } = entries(tree, level);
     for (at, &key) in keys.iter().enumerate() {
         put(&mut image, PLACE + at * size, key);
     }
-    let counts = [keys.len() as u8, tree.most_entries(level) as u8];
+    let counts = [keys.len() as u8, most as u8];
     image[PLACE + 488..PLACE + 490].copy_from_slice(&counts);
     image[PLACE + 490..PLACE + 492].copy_from_slice(&[size as u8, level]);
     image[PLACE + 496..PLACE + 498].copy_from_slice(&[tree.kind(); 2]);
@@ -41,6 +46,7 @@ fn checked_in(image: &[u8], tree: Tree, level: u8, range: Range) -> Answer<()> {
         offset: PLACE as u64,
     };
     let sought = Sought {
+        layout: Edition::Bits64.layout(),
         reference,
         level: Some(level),
         range,
@@ -240,7 +246,7 @@ fn assert_entry(tree: Tree, level: u8, full: &[u64], at: usize) {
 #[test]
 fn every_entry_of_a_full_page() {
     for (tree, level) in [(Tree::Nodes, 0), (Tree::Nodes, 1), (Tree::Blocks, 0)] {
-        let count = tree.most_entries(level);
+        let count = entries(tree, level).most;
         let full: Vec<_> = (10_u64..).step_by(2).take(count).collect();
         for at in 0..count {
             assert_entry(tree, level, &full, at);
@@ -315,7 +321,7 @@ impl Reached {
     /// The image with those keys changed, and the page sealed.
     fn with_keys(&self, changes: &[(usize, u64)]) -> Vec<u8> {
         let mut image = self.built.image.clone();
-        let size = self.page.tree.entry_size(self.page.level);
+        let size = entries(self.page.tree, self.page.level).size;
         for &(at, key) in changes {
             put(&mut image, self.page.offset + at * size, key);
         }
@@ -500,10 +506,20 @@ fn assert_image(built: &Built, tree: Tree, keys: &[u64], number: u64, at: usize)
 #[test]
 fn chosen_images_of_blocks() {
     let cases: [(Built, &[u64], u64, usize); 4] = [
-        (shuffled(), &[0x108, 0x10C, 0x114, 0x110], 11, 3),
-        (equal(), &[0x114, 0x114, 0x11B], 11, 1),
-        (range_first(), &[0x108, 0x10C, 0x118, 0x118], 21, 2),
-        (below(), &[0x108, 0x100, 0x110, 0x114], 11, 1),
+        (
+            shuffled(Edition::Bits64),
+            &[0x108, 0x10C, 0x114, 0x110],
+            11,
+            3,
+        ),
+        (equal(Edition::Bits64), &[0x114, 0x114, 0x11B], 11, 1),
+        (
+            range_first(Edition::Bits64),
+            &[0x108, 0x10C, 0x118, 0x118],
+            21,
+            2,
+        ),
+        (below(Edition::Bits64), &[0x108, 0x100, 0x110, 0x114], 11, 1),
     ];
     for (built, keys, number, at) in cases {
         assert_image(&built, Tree::Blocks, keys, number, at);
@@ -514,9 +530,19 @@ fn chosen_images_of_blocks() {
 fn chosen_images_of_nodes() {
     let before_its_split = [0x8062, 0x8082, 0x80A2, 0x80C2, 0x80E2, 0x8102];
     let cases: [(Built, &[u64], u64, usize); 3] = [
-        (unsplit(), &before_its_split, 21, 4),
-        (order_first(), &[0x8062, 0x8062, 0x80A2, 0x80E2], 11, 1),
-        (index_last(), &[0x8042, 0x8082, 0x8102], 21, 2),
+        (unsplit(Edition::Bits64), &before_its_split, 21, 4),
+        (
+            order_first(Edition::Bits64),
+            &[0x8062, 0x8062, 0x80A2, 0x80E2],
+            11,
+            1,
+        ),
+        (
+            index_last(Edition::Bits64),
+            &[0x8042, 0x8082, 0x8102],
+            21,
+            2,
+        ),
     ];
     for (built, keys, number, at) in cases {
         assert_image(&built, Tree::Nodes, keys, number, at);
@@ -526,7 +552,7 @@ fn chosen_images_of_nodes() {
 /// Each of the two leaves is refused at its first key, where the other's numbers are sought.
 #[test]
 fn leaves_in_the_place_of_each_other() {
-    let built = exchanged();
+    let built = exchanged(Edition::Bits64);
     assert_image(&built, Tree::Blocks, &[0x108, 0x10C, 0x110, 0x114], 21, 0);
     let [left, right] = [0x4B00, 0x4D00].map(|place| Refusal::key_range(place, 0));
     for number in [0x100, 0x104] {

@@ -4,6 +4,7 @@
 use model::build::lists::{deep, mixed};
 use model::build::{build, build_small, Built, PlacedPage, Plan};
 use model::damage::{spoil, Damage, END, HEADER, KEYS, PAGE};
+use model::edition::Edition;
 use model::nodes::in_words;
 use model::page::Tree;
 use model::random::Random;
@@ -93,7 +94,7 @@ fn words_of_a_place() {
 /// One written out, without the help of the lookup.
 #[test]
 fn places_of_a_list() {
-    let built = mixed();
+    let built = mixed(Edition::Bits64);
     let Node {
         data,
         subnode,
@@ -166,7 +167,7 @@ fn empty_list() {
 
 #[test]
 fn repeated_numbers() {
-    let built = mixed();
+    let built = mixed(Edition::Bits64);
     let numbers = [0x8042, 0x8043, 0x8182, 0x8283_65B7];
     for number in numbers {
         let nodes = [number; 40];
@@ -185,7 +186,7 @@ fn repeated_numbers() {
 
 #[test]
 fn low_four_bytes() {
-    let built = mixed();
+    let built = mixed(Edition::Bits64);
     let nodes = list(&built, 28);
     let (answer, area) = ask(&built.image, &nodes, 28 * WORDS);
     assert_eq!(answer, ACCEPTED);
@@ -234,7 +235,7 @@ fn leaf(built: &Built, first: u64) -> &PlacedPage {
 /// A damaged leaf is refused in the places of its numbers alone.
 #[test]
 fn damaged_leaf() {
-    let built = deep();
+    let built = deep(Edition::Bits64);
     let sound = one_by_one(&built.image, &built.node_numbers(), 14 * WORDS);
     let leaves = built.pages.iter();
     for leaf in leaves.filter(|page| (page.tree, page.level) == (Tree::Nodes, 0)) {
@@ -256,7 +257,7 @@ fn damaged_leaf() {
 /// A damaged root is refused in every place.
 #[test]
 fn damaged_root() {
-    let mut built = deep();
+    let mut built = deep(Edition::Bits64);
     let is_root = |page: &&PlacedPage| page.tree == Tree::Nodes && page.is_root;
     let root = built.pages.iter().find(is_root).expect("a root").offset;
     built.image[root + 3] ^= 1;
@@ -316,7 +317,7 @@ fn chosen_images() {
         met("list-level-3"),
         [(0, 0, 1), (0, 0, 4), (0, 1, 4)].into()
     );
-    let leaves = deep().pages.into_iter();
+    let leaves = deep(Edition::Bits64).pages.into_iter();
     let leaves = leaves.filter(|page| (page.tree, page.level) == (Tree::Nodes, 0));
     assert_eq!(leaves.count(), 5);
 }

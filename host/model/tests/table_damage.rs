@@ -1,22 +1,24 @@
 //! Each kind of damage to a table leads to the refusal of its rule in the calls that look there, and what
 //! lies just inside the line is allowed.
 
-use model::build::tables::any_table;
+use model::build::tables::any_table_of;
 use model::damage::table::{
     spoil_anywhere, spoil_table, Side, SpoiltTable, TableDamage, CELLS, ROWS, ROW_INDEX,
 };
+use model::edition::Edition;
 use model::random::Random;
 use model::table::{in_words, WORDS};
-use model::{cell, column, count_rows, find_row, read_row, table, Answer};
+use model::{cell, column, count_rows, find_row, find_row32, read_row, table, Answer};
 use std::collections::BTreeSet;
 
 const TABLES: usize = 60;
 const TRIES: usize = 4;
 
-/// The damage to some tables; those that have nothing for it do not count.
-fn spoilt(damage: TableDamage, side: Side) -> Vec<SpoiltTable> {
+/// The damage to some tables of an edition; those that have nothing for it do not count.
+fn spoilt(edition: Edition, damage: TableDamage, side: Side) -> Vec<SpoiltTable> {
     let mut random = Random::new(23);
-    let tables: Vec<_> = (0..TABLES).map(|_| any_table(&mut random)).collect();
+    let tables = (0..TABLES).map(|_| any_table_of(edition, &mut random));
+    let tables: Vec<_> = tables.collect();
     let tried = tables.iter().flat_map(|placed| {
         let tries = (0..TRIES).filter_map(|_| spoil_table(placed, damage, side, &mut random));
         tries.collect::<Vec<_>>()
@@ -43,7 +45,15 @@ fn number_of<T>(answer: Answer<T>) -> u64 {
     )
 }
 
-fn ask(spoilt: &SpoiltTable) -> Asked {
+/// The row index is asked by the call of its edition.
+fn find(edition: Edition, block: &[u8], id: u32) -> Answer<Option<u32>> {
+    match edition {
+        Edition::Bits64 => find_row(block, id),
+        Edition::Bits32 => find_row32(block, id),
+    }
+}
+
+fn ask(edition: Edition, spoilt: &SpoiltTable) -> Asked {
     let SpoiltTable { block, rows, .. } = spoilt;
     let columns = [0, 7, 255, u32::MAX].map(|at| number_of(column(block, at)));
     let mut shape: BTreeSet<_> = columns.into();
@@ -62,15 +72,15 @@ fn ask(spoilt: &SpoiltTable) -> Asked {
         ]
         .into(),
         cells: cells.collect(),
-        row_index: ids.map(|&id| number_of(find_row(block, id))).collect(),
+        row_index: ids.map(|&id| number_of(find(edition, block, id))).collect(),
     }
 }
 
 const NONE: [u64; 1] = [0];
 
-fn assert_refused(damage: TableDamage, spoilt: &SpoiltTable) {
+fn assert_refused(edition: Edition, damage: TableDamage, spoilt: &SpoiltTable) {
     let refusal = [damage.refusal()];
-    let asked = ask(spoilt);
+    let asked = ask(edition, spoilt);
     let in_rows = ROWS.contains(&damage);
     let in_cells = CELLS.contains(&damage);
     let in_index = ROW_INDEX.contains(&damage);
@@ -90,13 +100,13 @@ fn assert_refused(damage: TableDamage, spoilt: &SpoiltTable) {
     }
 }
 
-fn assert_allowed(damage: TableDamage, spoilt: &SpoiltTable) {
-    let asked = ask(spoilt);
+fn assert_allowed(edition: Edition, damage: TableDamage, spoilt: &SpoiltTable) {
+    let asked = ask(edition, spoilt);
     for answers in [asked.shape, asked.rows, asked.cells, asked.row_index] {
         assert!(answers.is_empty() || answers == NONE.into(), "{damage:?}");
     }
     for &id in &spoilt.ids {
-        let found = find_row(&spoilt.block, id).expect("it is allowed");
+        let found = find(edition, &spoilt.block, id).expect("it is allowed");
         assert!(found.is_some(), "{damage:?}: row {id:x}");
     }
     let rows = count_rows(&spoilt.block, &spoilt.rows).expect("it is allowed");
@@ -105,16 +115,17 @@ fn assert_allowed(damage: TableDamage, spoilt: &SpoiltTable) {
 
 #[test]
 fn every_kind() {
-    for damage in TableDamage::all() {
-        let refused = spoilt(damage, Side::Refused);
+    let kinds = TableDamage::all();
+    for (edition, damage) in kinds.flat_map(|kind| Edition::BOTH.map(|edition| (edition, kind))) {
+        let refused = spoilt(edition, damage, Side::Refused);
         assert!(refused.len() > TRIES * TABLES / 4, "{damage:?}");
         for table in &refused {
-            assert_refused(damage, table);
+            assert_refused(edition, damage, table);
         }
-        let allowed = spoilt(damage, Side::Allowed);
+        let allowed = spoilt(edition, damage, Side::Allowed);
         assert!(allowed.len() > TRIES * TABLES / 4, "{damage:?}");
         for table in &allowed {
-            assert_allowed(damage, table);
+            assert_allowed(edition, damage, table);
         }
     }
 }
@@ -122,7 +133,7 @@ fn every_kind() {
 /// The other columns of the row are read all the same.
 #[test]
 fn a_row_with_a_wrong_item() {
-    for spoilt in spoilt(TableDamage::CellItem, Side::Refused) {
+    for spoilt in spoilt(Edition::Bits64, TableDamage::CellItem, Side::Refused) {
         let SpoiltTable { block, rows, .. } = &spoilt;
         let mut refused = 0;
         for &row in &spoilt.row_numbers {
@@ -144,8 +155,9 @@ fn damage_anywhere() {
     let mut random = Random::new(77);
     let mut seen = BTreeSet::new();
     for _ in 0..400 {
-        let placed = any_table(&mut random);
-        let asked = ask(&spoil_anywhere(&placed, &mut random));
+        let edition = random.one_of(Edition::BOTH);
+        let placed = any_table_of(edition, &mut random);
+        let asked = ask(edition, &spoil_anywhere(&placed, &mut random));
         for answers in [asked.shape, asked.rows, asked.cells, asked.row_index] {
             seen.extend(answers);
         }

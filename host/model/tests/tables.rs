@@ -2,14 +2,15 @@
 //! tests; what short areas and odd numbers lead to.
 
 use model::build::tables::{
-    any_table, place_table, real_size, usual_layout, worked_example, GivenCell, GivenTable, Layout,
-    PlacedTable, RowsPlace, ROW_ID,
+    any_table_of, place_table, real_size_of, usual_layout, worked_example, GivenCell, GivenTable,
+    Layout, PlacedTable, RowsPlace, ROW_ID,
 };
+use model::edition::Edition;
 use model::random::Random;
 use model::table::{in_words, is_reference, WORDS};
 use model::{
-    cell, column, count_rows, find_property, find_row, item, read_row, table, Answer, Cell, Column,
-    Refusal, Rows, Table,
+    cell, column, count_rows, find_property, find_row, find_row32, item, read_row, table, Answer,
+    Cell, Column, Refusal, Rows, Table,
 };
 use std::collections::BTreeSet;
 use std::fs;
@@ -62,7 +63,11 @@ fn assert_row_index(placed: &PlacedTable) {
     let near = ids.flat_map(|id| [id, id.wrapping_add(1), id.wrapping_sub(1)]);
     for id in near.chain([0, u32::MAX]) {
         let expected = placed.row_index.get(&id).copied();
-        assert_eq!(find_row(&placed.block, id), Ok(expected), "id {id:x}");
+        let found = match placed.edition {
+            Edition::Bits64 => find_row(&placed.block, id),
+            Edition::Bits32 => find_row32(&placed.block, id),
+        };
+        assert_eq!(found, Ok(expected), "id {id:x}");
     }
 }
 
@@ -99,9 +104,9 @@ impl Seen {
 fn any_tables() {
     let mut random = Random::new(5);
     let mut seen = Seen::default();
-    for _ in 0..600 {
-        let placed = any_table(&mut random);
-        assert!(placed.block.len() <= 8176 && placed.rows.len() <= 8176);
+    for at in 0..1200 {
+        let placed = any_table_of(Edition::BOTH[at % 2], &mut random);
+        assert!(placed.block.len() <= 8180 && placed.rows.len() <= 8180);
         assert_read_back(&placed);
         seen.note(&placed);
     }
@@ -113,16 +118,17 @@ fn any_tables() {
 }
 
 #[test]
-fn a_table_of_real_size() {
-    let placed = real_size();
-    assert_read_back(&placed);
-    assert_eq!((placed.columns.len(), placed.cells.len()), (30, 100));
-    assert_eq!(placed.table.row_size, 81);
-    assert!(matches!(placed.table.rows, Rows::Subnode(0x3F)));
-    assert!(placed.block.len() <= 8176 && placed.rows.len() == 8100);
-    let cells = placed.cells[99].iter();
-    let items = cells.filter(|cell| matches!(cell, Cell::Item(_)));
-    assert_eq!(items.count(), 2);
+fn tables_of_real_size() {
+    for placed in Edition::BOTH.map(real_size_of) {
+        assert_read_back(&placed);
+        assert_eq!((placed.columns.len(), placed.cells.len()), (30, 100));
+        assert_eq!(placed.table.row_size, 81);
+        assert!(matches!(placed.table.rows, Rows::Subnode(0x3F)));
+        assert!(placed.block.len() <= 8176 && placed.rows.len() == 8100);
+        let cells = placed.cells[99].iter();
+        let items = cells.filter(|cell| matches!(cell, Cell::Item(_)));
+        assert_eq!(items.count(), 2);
+    }
 }
 
 /// The bytes that 003, 3.11 prints.
@@ -315,13 +321,13 @@ fn references_of_each_kind() {
 #[test]
 fn whole_rows_of_a_block() {
     let block = one_of_each();
-    for (length, rows) in [(0, 0), (19, 0), (20, 1), (39, 1), (40, 2), (8176, 408)] {
+    for (length, rows) in [(0, 0), (19, 0), (20, 1), (39, 1), (40, 2), (8180, 409)] {
         assert_eq!(count_rows(&block, &vec![0; length]), Ok(rows));
     }
-    assert_eq!(count_rows(&block, &[0; 8177]), Err(Refusal::new(23, 0)));
-    assert_eq!(cell(&block, &[0; 8177], 0, 0), Err(Refusal::new(23, 0)));
+    assert_eq!(count_rows(&block, &[0; 8181]), Err(Refusal::new(23, 0)));
+    assert_eq!(cell(&block, &[0; 8181], 0, 0), Err(Refusal::new(23, 0)));
     // Looked at only where the rows lie in a subnode.
-    assert_eq!(count_rows(&printed(), &[0; 8177]), Ok(3));
+    assert_eq!(count_rows(&printed(), &[0; 8181]), Ok(3));
     assert_eq!(find_row(&block, 1), Ok(None));
 }
 

@@ -3,7 +3,8 @@
 use super::{heap, heap_subject, random_heap, Subject};
 use crate::ask::ON_TABLE;
 use crate::tables::draw::Known;
-use model::build::tables::{any_table, real_size, worked_example, PlacedTable};
+use crate::tables::LENGTHS;
+use model::build::tables::{any_table_of, real_size_of, worked_example, PlacedTable};
 use model::damage::table::{spoil_anywhere, spoil_table, Side, SpoiltTable, TableDamage};
 use model::random::Random;
 use model::table::is_reference;
@@ -22,7 +23,7 @@ pub fn tables(random: &mut Random) -> Vec<Subject> {
         asks: 24,
         ..as_built(&placed)
     };
-    let mut subjects = vec![whole, other_items(&placed, random)];
+    let mut subjects = vec![whole, other_items(&placed, random), longer(&placed, random)];
     for _ in 0..DAMAGES {
         subjects.push(spoilt(&placed, random));
     }
@@ -35,16 +36,26 @@ pub fn tables(random: &mut Random) -> Vec<Subject> {
 
 /// Those without rows are drawn less often.
 fn table(random: &mut Random) -> PlacedTable {
+    let edition = super::edition(random);
     match random.below(12) {
-        0 => return real_size(),
+        0 => return real_size_of(edition),
         1 => return worked_example(),
         _ => {}
     }
-    let placed = any_table(random);
+    let placed = any_table_of(edition, random);
     if placed.cells.is_empty() && !random.one_in(4) {
-        return any_table(random);
+        return any_table_of(edition, random);
     }
     placed
+}
+
+/// The table in a block of about the most bytes.
+fn longer(placed: &PlacedTable, random: &mut Random) -> Subject {
+    let mut subject = as_built(placed);
+    let length = random.one_of(LENGTHS).max(placed.block.len());
+    subject.bytes.resize(length, 0);
+    subject.name += ", longer";
+    subject
 }
 
 fn as_built(placed: &PlacedTable) -> Subject {

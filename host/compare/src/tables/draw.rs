@@ -1,6 +1,6 @@
 //! What is asked of a table.
 
-use super::{CELL_WORDS, MOST_ROWS};
+use super::{CELL_WORDS, LENGTHS, MOST_ROWS};
 use crate::ask::{Ask, Call};
 use crate::lists;
 use model::random::Random;
@@ -24,7 +24,7 @@ pub fn draw(call: Call, block: &[u8], known: &Known, random: &mut Random) -> (As
     let rows = rows(known, row_size, random);
     let number = match call {
         Call::Column => index(columns, random),
-        Call::FindRow => id(&known.ids, random),
+        _ if call.seeks_row() => id(&known.ids, random),
         _ => {
             let count = model::count_rows(block, &rows).unwrap_or(3);
             row(count, row_size, random)
@@ -45,8 +45,7 @@ pub fn draw(call: Call, block: &[u8], known: &Known, random: &mut Random) -> (As
 pub fn rows(known: &Known, row_size: usize, random: &mut Random) -> Vec<u8> {
     let length = match random.below(16) {
         0 => 0,
-        1 => MOST_ROWS,
-        2 => MOST_ROWS + 1,
+        1 | 2 => random.one_of(LENGTHS),
         3 => MOST_ROWS + random.between(2, MOST_ROWS),
         4..=7 => row_size * random.between(1, 4) + random.below(3) - 1,
         _ => known.rows.len(),

@@ -20,8 +20,10 @@ pub enum Fault {
     /// The record before its columns, or its length.
     Record,
     Columns,
-    /// A subnode's rows over 8,176 bytes.
+    /// A subnode's rows over 8,180 bytes.
     RowsLength,
+    /// The row index is one of the other edition, by the size of its row numbers.
+    OtherIndex,
     IndexRecord,
     /// The records of an item of the row index.
     IndexRecords,
@@ -35,7 +37,7 @@ impl Fault {
             Area => 17,
             Heap => 18,
             UserRoot | RowsItem | Value | IndexItem | IndexRoot | IndexChild => 19,
-            ClientKind | Record | Columns | RowsLength | IndexRecord | IndexRecords => 23,
+            _ => 23,
         }
     }
 
@@ -45,7 +47,14 @@ impl Fault {
             Call::CountRows => &[RowsItem, RowsLength],
             Call::Cell => &[RowsItem, RowsLength, Value],
             Call::ReadRow => &[RowsItem, RowsLength, Value, Area],
-            Call::FindRow => &[IndexItem, IndexRoot, IndexChild, IndexRecord, IndexRecords],
+            _ if call.seeks_row() => &[
+                IndexItem,
+                IndexRoot,
+                IndexChild,
+                OtherIndex,
+                IndexRecord,
+                IndexRecords,
+            ],
             _ => &[],
         };
         let common = [Heap, ClientKind, UserRoot, Record, Columns];
@@ -76,8 +85,10 @@ fn shape(block: &[u8]) -> Option<Fault> {
 }
 
 fn behind_shape(call: Call, lent: Lent, number: u64) -> Option<Fault> {
-    if call == Call::FindRow {
-        return in_index(lent.bytes, number);
+    match call {
+        Call::FindRow => return in_index(lent.bytes, [4, 2], number),
+        Call::FindRow32 => return in_index(lent.bytes, [2, 4], number),
+        _ => {}
     }
     match model::count_rows(lent.bytes, lent.rows) {
         Err(refusal) if refusal.number == 19 => Some(RowsItem),
@@ -87,11 +98,16 @@ fn behind_shape(call: Call, lent: Lent, number: u64) -> Option<Fault> {
     }
 }
 
-fn in_index(block: &[u8], number: u64) -> Option<Fault> {
+/// The bytes of a row's number are those of the call's edition, and of the other.
+fn in_index(block: &[u8], [own, other]: [u8; 2], number: u64) -> Option<Fault> {
     let Some(index) = item(block, four(record(block)?, 10)) else {
         return Some(IndexItem);
     };
-    if index.len() != 8 || index[..3] != [0xB5, 4, 4] || index[3] > 3 {
+    let fits = |size| index.len() == 8 && index[..3] == [0xB5, 4, size] && index[3] <= 3;
+    if fits(other) {
+        return Some(OtherIndex);
+    }
+    if !fits(own) {
         return Some(IndexRecord);
     }
     if item(block, four(index, 4)).is_none() {
@@ -138,6 +154,7 @@ impl fmt::Display for Fault {
             Record => "record",
             Columns => "columns",
             RowsLength => "rows too long",
+            OtherIndex => "row index of the other",
             IndexRecord => "row index's record",
             IndexRecords => "records of the row index",
         })

@@ -1,7 +1,7 @@
 //! How an answer is told to be what has to be met.
 
 use super::fault::{four, item, record, Fault};
-use super::{Area, Content, Length, Met, Number, Tag, CELL_WORDS, MOST_ROWS};
+use super::{Area, Content, Length, Met, Number, Tag, CELL_WORDS, LENGTHS, MOST_ROWS};
 use crate::ask::{Ask, Call, Lent};
 use model::{Column, Rows};
 
@@ -19,7 +19,7 @@ impl Met {
         match ask.call {
             Call::Table => met.push(Met::Rows(answer[6])),
             Call::Column => met.extend(numbers(ask, columns(lent).count())),
-            Call::FindRow => met.extend(in_index(lent.bytes, answer[3] == 1)),
+            call if call.seeks_row() => met.extend(in_index(call, lent.bytes, answer[3] == 1)),
             Call::Cell => met.extend(cell(ask, lent, answer)),
             Call::ReadRow => met.extend(places(ask, lent, answer, area)),
             _ => {}
@@ -51,8 +51,7 @@ fn rows_block(call: Call, lent: Lent) -> Vec<Met> {
         (Length::OneUnderWholeRows, whole(length + 1)),
         (Length::WholeRows, whole(length)),
         (Length::OneOverWholeRows, length > 0 && whole(length - 1)),
-        (Length::Most, length == MOST_ROWS),
-        (Length::OneOverMost, length == MOST_ROWS + 1),
+        (Length::Bytes(length), LENGTHS.contains(&length)),
         (Length::Longer, length > MOST_ROWS + 1),
     ];
     let met = lengths.into_iter().filter(|(_, met)| *met);
@@ -141,10 +140,10 @@ fn places(ask: &Ask, lent: Lent, answer: &[u64], area: &[u64]) -> Vec<Met> {
     met
 }
 
-fn in_index(block: &[u8], found: bool) -> Option<Met> {
+fn in_index(call: Call, block: &[u8], found: bool) -> Option<Met> {
     let index = item(block, four(record(block)?, 10))?;
     match four(index, 4) {
-        0 => Some(Met::EmptyIndex),
-        _ => Some(Met::Index(index[3], found)),
+        0 => Some(Met::EmptyIndex(call)),
+        _ => Some(Met::Index(call, index[3], found)),
     }
 }

@@ -2,11 +2,12 @@
 
 use super::blocks::tree_bytes;
 use super::heaps::{property_context, HeapPlan};
-use super::seal::{seal_block, seal_page, trailer_at};
+use super::seal::{seal_block, seal_page};
 use super::{without_bit_0, Builder, Built, PlacedPage, Plan};
-use crate::bytes::{put, u64_at};
+use crate::bytes::put;
 use crate::checksum::signature;
 use crate::coding::{encode, CYCLIC, NONE, PERMUTE};
+use crate::edition::Edition;
 use crate::node::Node;
 use crate::page::Tree;
 
@@ -14,8 +15,8 @@ const FIRST_NODE: u32 = 0x8022;
 
 /// A node names 0x1519 and the BBT lists 0x1518, a property context. The number two above is named
 /// too and not listed.
-pub fn ticket() -> Built {
-    let mut builder = Builder::new(19, &tidy(PERMUTE));
+pub fn ticket(edition: Edition) -> Built {
+    let mut builder = Builder::new(19, &tidy(edition, PERMUTE));
     let plan = HeapPlan {
         index_levels: 1,
         properties: 6,
@@ -31,16 +32,17 @@ pub fn ticket() -> Built {
 }
 
 /// Two numbers side by side in a leaf that are equal without bit 0, and a leaf before it.
-pub fn twins() -> Built {
-    let mut builder = Builder::new(3, &over_leaves(NONE, 1));
-    builder.fill(&[0x1510, 0x1514, 0x1518, 0x1519]);
-    builder.name(&[0x1510, 0x1518, 0x1519]);
-    builder.finish()
+pub fn twins(edition: Edition) -> Built {
+    let numbers = [0x1510, 0x1514, 0x1518, 0x1519];
+    let named = [0x1510, 0x1518, 0x1519];
+    over_leaves(3, (edition, NONE, 1), &numbers, &named, |leaves| {
+        leaves.len() > 1 && leaves.last() < Some(&0x1519)
+    })
 }
 
 /// Data trees that name children with the bit where it is not listed, and the other way round.
-pub fn data_trees() -> Built {
-    let mut builder = Builder::new(40, &tidy(CYCLIC));
+pub fn data_trees(edition: Edition) -> Built {
+    let mut builder = Builder::new(40, &tidy(edition, CYCLIC));
     builder.fill(&[0x20, 0x24, 0x29, 0x2D]);
     builder.spread(0x33, &[0x21, 0x25, 0x28, 0x2D, 0x20]);
     builder.spread(0x36, &[0x2C, 0x29]);
@@ -49,8 +51,8 @@ pub fn data_trees() -> Built {
 }
 
 /// Blocks that are listed with the bit, one of them internal.
-pub fn listed(method: u8) -> Built {
-    let mut builder = Builder::new(41 + u64::from(method), &tidy(method));
+pub fn listed(edition: Edition, method: u8) -> Built {
+    let mut builder = Builder::new(41 + u64::from(method), &tidy(edition, method));
     builder.fill(&[0x1519]);
     builder.spread(0x1523, &[0x1519, 0x1518]);
     builder.name(&[0x1519, 0x1518, 0x1523, 0x1522]);
@@ -58,8 +60,8 @@ pub fn listed(method: u8) -> Built {
 }
 
 /// Block 1 is listed: a data tree's child, but no node's data block.
-pub fn data_one() -> Built {
-    let mut builder = Builder::new(44, &tidy(PERMUTE));
+pub fn data_one(edition: Edition) -> Built {
+    let mut builder = Builder::new(44, &tidy(edition, PERMUTE));
     builder.fill(&[1, 0x10]);
     builder.spread(0x16, &[1, 0, 0x10]);
     builder.name(&[0, 1, 0x16, 0x11]);
@@ -67,65 +69,71 @@ pub fn data_one() -> Built {
 }
 
 /// The same, with a BBT that has no sound page.
-pub fn data_one_alone() -> Built {
-    let mut built = data_one();
+pub fn data_one_alone(edition: Edition) -> Built {
+    let mut built = data_one(edition);
     let page = root(&built).offset;
-    built.image[page + 497] = Tree::Nodes.kind();
+    let kinds = page + built.layout().page.kinds;
+    built.image[kinds + 1] = Tree::Nodes.kind();
     built
 }
 
 /// Index keys and trailers have the bit, leaves have it not.
-pub fn index_keys() -> Built {
-    let mut builder = Builder::new(145, &over_leaves(PERMUTE, 2));
-    builder.fill(&[0x100, 0x104, 0x108, 0x10C, 0x110, 0x114]);
-    builder.name(&[0x100, 0x105, 0x109, 0x110]);
-    let mut built = builder.finish();
+pub fn index_keys(edition: Edition) -> Built {
+    let numbers = [0x100, 0x104, 0x108, 0x10C, 0x110, 0x114];
+    let named = [0x100, 0x105, 0x109, 0x110];
+    let mut built = over_leaves(145, (edition, PERMUTE, 2), &numbers, &named, |leaves| {
+        leaves.len() > 2
+    });
+    let layout = built.layout();
     let of_index = |page: &&mut PlacedPage| page.tree == Tree::Blocks && page.level > 0;
     for page in built.pages.iter_mut().filter(of_index) {
         for (at, key) in page.keys.iter_mut().enumerate() {
             *key |= 1;
-            put(&mut built.image, page.offset + 24 * at, &key.to_le_bytes());
+            let place = page.offset + layout.index.size * at;
+            layout.put_number(&mut built.image, place, *key);
         }
         seal_page(&mut built.image, page.offset);
     }
     for block in &built.blocks {
-        let trailer = trailer_at(block.offset, block.size);
-        built.image[trailer + 8] |= 1;
+        let number = layout.trailer_at(block.offset, block.size) + layout.trailer.number;
+        built.image[number] |= 1;
     }
     built
 }
 
 /// An index key that is equal, without bit 0, to the last key of the leaf before it.
-pub fn range_end() -> Built {
-    let mut builder = Builder::new(3, &over_leaves(CYCLIC, 1));
+pub fn range_end(edition: Edition) -> Built {
     let numbers = [0x100, 0x104, 0x108, 0x10C];
-    builder.fill(&numbers);
-    builder.name(&numbers);
-    let mut built = builder.finish();
+    let plan = (edition, CYCLIC, 1);
+    let mut built = over_leaves(3, plan, &numbers, &numbers, |leaves| leaves.len() > 1);
+    let layout = built.layout();
     let page = root(&built).offset;
-    let behind = u64_at(&built.image, page + 24);
+    let second = page + layout.index.size;
+    let behind = layout.number_at(&built.image, second);
     let below = |number: &&u64| **number < without_bit_0(behind);
     let last = numbers.iter().rfind(below).expect("a leaf before it");
-    put(&mut built.image, page + 24, &(last | 1).to_le_bytes());
+    layout.put_number(&mut built.image, second, last | 1);
     seal_page(&mut built.image, page);
     built
 }
 
 /// Trailers, and bytes, of the number with bit 0 the other way: the first two and the last are
 /// accepted.
-pub fn trailers() -> Built {
-    let mut builder = Builder::new(48, &tidy(CYCLIC));
+pub fn trailers(edition: Edition) -> Built {
+    let mut builder = Builder::new(48, &tidy(edition, CYCLIC));
     let numbers = [0x40, 0x45, 0x49, 0x4D, 0x51];
     builder.fill(&numbers);
     builder.name(&numbers);
     let mut built = builder.finish();
+    let layout = built.layout();
     let (image, blocks) = (&mut built.image, &built.blocks);
-    let trailer = |at: usize| trailer_at(blocks[at].offset, blocks[at].size);
-    image[trailer(0) + 8] ^= 1;
-    image[trailer(1) + 8] ^= 1;
+    let trailer = |at: usize| layout.trailer_at(blocks[at].offset, blocks[at].size);
+    let number = |at| trailer(at) + layout.trailer.number;
+    image[number(0)] ^= 1;
+    image[number(1)] ^= 1;
     let signed = signature(blocks[2].offset as u64, blocks[2].number ^ 1);
     put(image, trailer(2) + 2, &signed.to_le_bytes());
-    image[trailer(3) + 8] ^= 3;
+    image[number(3)] ^= 3;
     let coded = &blocks[4];
     let mut stored = coded.data.clone();
     encode(CYCLIC, coded.number ^ 1, &mut stored).expect("a method of 0 to 2");
@@ -135,40 +143,60 @@ pub fn trailers() -> Built {
 }
 
 /// The highest numbers there are.
-pub fn highest() -> Built {
-    let mut builder = Builder::new(49, &tidy(CYCLIC));
-    builder.fill(&[u64::MAX - 2]);
-    builder.spread(u64::MAX, &[u64::MAX - 3, u64::MAX - 2]);
-    builder.name(&[u64::MAX - 3, u64::MAX - 1]);
+pub fn highest(edition: Edition) -> Built {
+    let mut builder = Builder::new(49, &tidy(edition, CYCLIC));
+    let highest = edition.layout().highest();
+    builder.fill(&[highest - 2]);
+    builder.spread(highest, &[highest - 3, highest - 2]);
+    builder.name(&[highest - 3, highest - 1]);
     builder.finish()
 }
 
 /// The BBT's root page has its number with bit 0 the other way, under the signature of the right one.
-pub fn page_number() -> Built {
-    let mut builder = Builder::new(50, &tidy(NONE));
+pub fn page_number(edition: Edition) -> Built {
+    let mut builder = Builder::new(50, &tidy(edition, NONE));
     builder.fill(&[4]);
     builder.name(&[5, 1]);
     let mut built = builder.finish();
-    let page = root(&built).offset;
-    built.image[page + 504] ^= 1;
+    let number = root(&built).offset + built.layout().page.number;
+    built.image[number] ^= 1;
     built
 }
 
-fn tidy(method: u8) -> Plan {
+fn tidy(edition: Edition, method: u8) -> Plan {
     Plan {
+        edition,
         method,
         tidy: true,
         ..Plan::default()
     }
 }
 
-/// A BBT of that level whose blocks stand in several leaves.
-fn over_leaves(method: u8, block_level: u8) -> Plan {
-    Plan {
+/// Those blocks, and a node for each of the named ones, with a BBT of that level. The seed tells how they
+/// lie in leaves: it is the first one, from that one on, by which the first keys of the leaves are as they
+/// are to be.
+fn over_leaves(
+    seed: u64,
+    (edition, method, block_level): (Edition, u8, u8),
+    numbers: &[u64],
+    named: &[u64],
+    fits: impl Fn(&[u64]) -> bool,
+) -> Built {
+    let plan = Plan {
+        edition,
         method,
         block_level,
         ..Plan::default()
-    }
+    };
+    let built = |seed| {
+        let mut builder = Builder::new(seed, &plan);
+        builder.fill(numbers);
+        builder.name(named);
+        builder.finish()
+    };
+    let mut all = (seed..).map(built);
+    let found = all.find(|built| fits(&built.first_keys(Tree::Blocks, 0)));
+    found.expect("some seed")
 }
 
 fn root(built: &Built) -> &PlacedPage {
@@ -195,7 +223,7 @@ impl Builder {
         };
         let sum = children.iter().map(|&child| size(child)).sum();
         let space = &mut self.space;
-        let data = tree_bytes(children, sum);
+        let data = tree_bytes(space.layout, children, sum);
         self.blocks.place_as(space, number, data);
         self.trees.insert(number, children.to_vec());
     }

@@ -36,7 +36,8 @@ pub enum Given {
     Subnode(u32),
 }
 
-/// A property context of at most 8,176 bytes; too large a plan is cut down.
+/// A property context of at most 8,176 bytes, which a block of either edition can have; too large a plan
+/// is cut down.
 pub fn property_context(random: &mut Random, mut plan: HeapPlan) -> PlacedHeap {
     loop {
         let mut filler = Filler::new(random, plan);
@@ -65,6 +66,25 @@ pub fn given_properties(random: &mut Random, given: Vec<(u16, u16, Given)>) -> P
     };
     let properties = given.into_iter().map(place).collect();
     filler.finish(properties)
+}
+
+/// A context of a few properties in a block of just so many bytes, 200 at least: one item is as long as it
+/// takes. Where the length is odd, a byte that nothing reads stands behind the map.
+pub fn context_of_length(random: &mut Random, length: usize) -> PlacedHeap {
+    let mut context = |filler: usize| {
+        let filler = random.bytes(filler);
+        let given = vec![
+            (0x3001, 0x1F, Given::Bytes(vec![0x41, 0])),
+            (0x3602, 3, Given::Number(7)),
+            (0x3613, 0x102, Given::Bytes(filler)),
+            (0x67FF, 0x102, Given::Empty),
+        ];
+        given_properties(&mut Random::new(0), given)
+    };
+    let without = context(0).block.len();
+    let mut heap = context((length - without) & !1);
+    heap.block.resize(length, 0xA5);
+    heap
 }
 
 /// A heap of a few items and any client kind but that of properties.

@@ -7,6 +7,7 @@ pub mod end;
 pub mod heaps;
 pub(crate) mod items;
 pub mod keys;
+pub mod limits;
 pub mod lists;
 pub mod office;
 mod pages;
@@ -15,7 +16,8 @@ mod space;
 pub mod tables;
 
 use crate::bytes::put;
-use crate::header::{Reference, CLIENT_MAGIC, MAGIC, SENTINEL, VERSION};
+use crate::edition::{Edition, Layout, Reference};
+use crate::header::{CLIENT_MAGIC, MAGIC, SENTINEL};
 use crate::node::Node;
 use crate::page::Tree;
 use crate::random::Random;
@@ -29,13 +31,19 @@ use std::collections::BTreeMap;
 /// The most bytes of an image that the programs work on.
 pub const MOST_SMALL: usize = 65_536;
 
-/// The reader's bounds, said here once more: a slip there must not change what is built.
-const MOST_SIZE: usize = 8176;
-const MOST_CHILDREN: usize = 1021;
+/// The most bytes of a block and the most children of a data tree: the reader's bounds, said here once
+/// more, since a slip there must not change what is built.
+pub fn most_size_and_children(edition: Edition) -> (usize, usize) {
+    match edition {
+        Edition::Bits64 => (8176, 1021),
+        Edition::Bits32 => (8180, 2043),
+    }
+}
 
 /// What an image is to hold.
 #[derive(Clone, Copy, Debug, Default)]
 pub struct Plan {
+    pub edition: Edition,
     pub method: u8,
     /// Level of the root page; at least as high as the number of entries asks for.
     pub node_level: u8,
@@ -95,6 +103,7 @@ pub struct PlacedBlock {
 #[derive(Clone, Debug)]
 pub struct Built {
     pub image: Vec<u8>,
+    pub edition: Edition,
     pub method: u8,
     pub nodes: Vec<Node>,
     pub blocks: Vec<PlacedBlock>,
@@ -106,6 +115,10 @@ pub struct Built {
 }
 
 impl Built {
+    pub fn layout(&self) -> &'static Layout {
+        self.edition.layout()
+    }
+
     pub fn node_numbers(&self) -> Vec<u64> {
         self.nodes.iter().map(|node| u64::from(node.node)).collect()
     }
@@ -126,8 +139,46 @@ impl Built {
         let mut leaves = pages.filter(|page| page.tree == Tree::Blocks && page.level == 0);
         leaves.find_map(|page| {
             let at = page.keys.iter().position(|&key| key == number)?;
-            Some((page.offset, page.offset + 24 * at))
+            Some((
+                page.offset,
+                page.offset + self.layout().block_leaf.size * at,
+            ))
         })
+    }
+
+    /// The first keys of the pages of that tree and level, in ascending order.
+    pub fn first_keys(&self, tree: Tree, level: u8) -> Vec<u64> {
+        let pages = self.pages.iter();
+        let fitting = pages.filter(|page| (page.tree, page.level) == (tree, level));
+        let mut keys: Vec<_> = fitting
+            .filter_map(|page| page.keys.first().copied())
+            .collect();
+        keys.sort_unstable();
+        keys
+    }
+
+    /// The keys of the index pages above the page's level.
+    fn keys_above<'a>(&'a self, page: &'a PlacedPage) -> impl Iterator<Item = u64> + 'a {
+        let pages = self.pages.iter();
+        let above = pages.filter(|other| other.tree == page.tree && other.level > page.level);
+        above.flat_map(|other| other.keys.iter().copied())
+    }
+
+    /// Where the range of a page begins, which has a key.
+    pub fn range_low(&self, page: &PlacedPage) -> u64 {
+        let first = page.tree.key(page.keys[0]);
+        let keys = self.keys_above(page);
+        let up_to_first = keys.filter(|&key| page.tree.key(key) <= first);
+        up_to_first.max().unwrap_or(0)
+    }
+
+    /// The first key behind the range of a page, which has a key; the highest number where the range has
+    /// no end.
+    pub fn range_end(&self, page: &PlacedPage) -> u64 {
+        let last = page.tree.key(page.keys[page.keys.len() - 1]);
+        let keys = self.keys_above(page);
+        let behind_last = keys.filter(|&key| last < page.tree.key(key));
+        behind_last.min().unwrap_or(u64::MAX)
     }
 
     /// The blocks whose bytes are the data of a node, by the numbers that name them.
@@ -155,23 +206,24 @@ pub fn build(seed: u64, plan: &Plan) -> Built {
     builder.finish()
 }
 
-/// A seeded image of at most 65,536 bytes; shapes of all kinds come up over the seeds.
+/// A seeded image of 64 bits and at most 65,536 bytes; shapes of all kinds come up over the seeds.
 pub fn build_small(seed: u64) -> Built {
-    small(seed, false)
+    build_small_of(Edition::Bits64, seed, false)
 }
 
 /// Such an image with bit 0 loose.
 pub fn build_small_loose(seed: u64) -> Built {
-    small(seed, true)
+    build_small_of(Edition::Bits64, seed, true)
 }
 
-fn small(seed: u64, loose_bit_0: bool) -> Built {
+/// Such an image of that edition.
+pub fn build_small_of(edition: Edition, seed: u64, loose_bit_0: bool) -> Built {
     let mut random = Random::new(seed);
     loop {
         let seed = random.number();
         let plan = Plan {
             loose_bit_0,
-            ..small_plan(&mut random)
+            ..small_plan(edition, &mut random)
         };
         let built = build(seed, &plan);
         if built.image.len() <= MOST_SMALL {
@@ -180,10 +232,12 @@ fn small(seed: u64, loose_bit_0: bool) -> Built {
     }
 }
 
-fn small_plan(random: &mut Random) -> Plan {
+fn small_plan(edition: Edition, random: &mut Random) -> Plan {
     let deep = random.one_in(3);
     let most = if deep { 3 } else { 12 };
+    let (most_size, _) = most_size_and_children(edition);
     Plan {
+        edition,
         method: random.below(3) as u8,
         node_level: random.below(if deep { 8 } else { 3 }) as u8,
         block_level: random.below(if deep { 8 } else { 3 }) as u8,
@@ -193,7 +247,7 @@ fn small_plan(random: &mut Random) -> Plan {
         property_nodes: random.below(3),
         properties: random.below(40),
         index_levels: random.below(4) as u8,
-        most_size: random.one_of([1, 49, 200, 200, 1200, MOST_SIZE]),
+        most_size: random.one_of([1, 49, 200, 200, 1200, most_size]),
         most_children: random.one_of([1, 3, 3, 8]),
         spare_blocks: random.below(most),
         tidy: random.one_in(6),
@@ -245,7 +299,8 @@ impl Builder {
     /// A block of random bytes: its number and size.
     fn place_block(&mut self) -> (u64, u32) {
         let random = &mut self.space.random;
-        let most = self.plan.most_size.clamp(1, MOST_SIZE);
+        let (most_size, _) = most_size_and_children(self.plan.edition);
+        let most = self.plan.most_size.clamp(1, most_size);
         let size = match random.below(6) {
             _ if self.plan.one_child => most,
             0 => most,
@@ -258,7 +313,8 @@ impl Builder {
 
     /// A data tree; one child is named twice now and then.
     fn place_tree(&mut self) -> u64 {
-        let most = self.plan.most_children.clamp(1, MOST_CHILDREN);
+        let (_, most_children) = most_size_and_children(self.plan.edition);
+        let most = self.plan.most_children.clamp(1, most_children);
         let Plan {
             tidy, one_child, ..
         } = self.plan;
@@ -324,7 +380,7 @@ impl Builder {
         let subnode = if tidy {
             0
         } else {
-            random.number() >> random.below(64)
+            (random.number() >> random.below(64)) & self.space.layout.highest()
         };
         let parent = if tidy { 0x122 } else { random.number() as u32 };
         self.list_node(Node {
@@ -351,9 +407,10 @@ impl Builder {
             .collect();
         let nodes = self.grow(Tree::Nodes, &listed, self.plan.node_level, &mut pages);
         let mut image = self.space.bytes;
-        write_header(&mut image, self.plan.method, nodes, blocks);
+        write_header(&mut image, &self.plan, nodes, blocks);
         Built {
             image,
+            edition: self.plan.edition,
             method: self.plan.method,
             nodes: self.nodes.into_values().collect(),
             blocks: self.blocks.placed,
@@ -372,7 +429,7 @@ impl Builder {
     ) -> Reference {
         // An index page holds at least one entry.
         let level = if entries.is_empty() { 0 } else { level };
-        let level = level.max(least_level(tree, entries.len()));
+        let level = level.max(least_level(self.space.layout, tree, entries.len()));
         let mut grower = Grower {
             space: &mut self.space,
             tree,
@@ -388,30 +445,31 @@ impl Builder {
 }
 
 fn node_entry(node: &Node, space: &mut Space) -> Entry {
-    // The high half of the first eight bytes and the padding may hold anything.
-    let mut bytes = space.fresh(32);
+    let layout = space.layout;
+    // The high half of a first field of eight bytes, and padding, may hold anything.
+    let mut bytes = space.fresh(layout.node_leaf.size);
     put(&mut bytes, 0, &node.node.to_le_bytes());
-    put(&mut bytes, 8, &node.data.to_le_bytes());
-    put(&mut bytes, 16, &node.subnode.to_le_bytes());
-    put(&mut bytes, 24, &node.parent.to_le_bytes());
+    layout.put_number(&mut bytes, layout.width, node.data);
+    layout.put_number(&mut bytes, 2 * layout.width, node.subnode);
+    put(&mut bytes, 3 * layout.width, &node.parent.to_le_bytes());
     Entry {
         key: u64::from(node.node),
         bytes,
     }
 }
 
-fn write_header(image: &mut [u8], method: u8, nodes: Reference, blocks: Reference) {
+/// The version stands there already.
+fn write_header(image: &mut [u8], plan: &Plan, nodes: Reference, blocks: Reference) {
     put(image, 0, &MAGIC);
     put(image, 8, &CLIENT_MAGIC);
-    put(image, 10, &VERSION.to_le_bytes());
     // Fields that no rule here looks at, as 003, 2.2.2.5 and 2.2.2.6 have them: the version of the
     // client, and its platform.
     put(image, 12, &[19, 0, 1, 1]);
-    let fields = [nodes.number, nodes.offset, blocks.number, blocks.offset];
-    for (at, field) in fields.iter().enumerate() {
-        put(image, 216 + 8 * at, &field.to_le_bytes());
+    let layout = plan.edition.layout();
+    for (tree, root) in [(Tree::Nodes, nodes), (Tree::Blocks, blocks)] {
+        layout.put_reference(image, layout.root(tree), root);
     }
-    put(image, 512, &[SENTINEL, method]);
+    put(image, layout.header.sentinel, &[SENTINEL, plan.method]);
     let end = image.len() as u64;
     set_end(image, end);
 }

@@ -2,15 +2,18 @@
 
 mod columns;
 mod messages;
+mod texts;
 
 use super::heaps::{given_properties, Given};
-use super::tables::{place_table, usual_layout, GivenTable, RowsPlace, HIERARCHY};
+use super::tables::{place_table_of, usual_layout, GivenTable, RowsPlace, HIERARCHY};
 use super::{Builder, Built, Plan};
 use crate::coding::PERMUTE;
+use crate::edition::Edition;
 use crate::node::Node;
 use columns::{row, ASSOCIATED, ATTACHMENTS, CONTENTS, RECIPIENTS, SEARCH};
 use messages::{Message, INBOX_MESSAGES, OLD_MESSAGES, SENT_MESSAGES};
 use std::collections::BTreeMap;
+use texts::{tags_of, texts_of};
 
 const STORE: u32 = 0x21;
 const NAMES: u32 = 0x61;
@@ -53,8 +56,9 @@ const STORE_KEY: [u8; 16] = [0, 1, 2, 3, 4, 5, 6, 7, 8, 9, 10, 11, 12, 13, 14, 1
 type Properties = Vec<(u16, u16, Given)>;
 
 /// Permute-encoded; the same bytes each time.
-pub fn office() -> Built {
+pub fn office(edition: Edition) -> Built {
     let plan = Plan {
+        edition,
         method: PERMUTE,
         node_level: 1,
         block_level: 1,
@@ -62,6 +66,7 @@ pub fn office() -> Built {
         ..Plan::default()
     };
     let mut office = Office {
+        edition,
         builder: Builder::new(0x000F_F1CE, &plan),
         contexts: BTreeMap::new(),
     };
@@ -84,6 +89,7 @@ pub fn office() -> Built {
 }
 
 struct Office {
+    edition: Edition,
     builder: Builder,
     /// The parent and the properties of each folder and message.
     contexts: BTreeMap<u32, (u32, Properties)>,
@@ -91,6 +97,7 @@ struct Office {
 
 impl Office {
     fn place_context(&mut self, node: u32, parent: u32, given: Properties) {
+        let given = texts_of(self.edition, given);
         let builder = &mut self.builder;
         let heap = given_properties(&mut builder.space.random, given.clone());
         let data = builder.place_data(heap.block.clone());
@@ -172,28 +179,31 @@ impl Office {
     /// A row for each of those nodes, with those of its properties that the table has columns for.
     fn place_table(&mut self, columns: &[u32], nodes: &[u32]) -> u64 {
         let rows = nodes.iter().map(|node| (*node, &self.contexts[node].1));
-        let given = given_table(columns, rows.collect());
-        let table = place_table(&mut self.builder.space.random, &given);
+        let given = given_table(&tags_of(self.edition, columns), rows.collect());
+        self.place_given(&given)
+    }
+
+    fn place_given(&mut self, given: &GivenTable) -> u64 {
+        let random = &mut self.builder.space.random;
+        let table = place_table_of(self.edition, random, given);
         self.builder.place_data(table.block)
     }
 
-    /// A tree of one leaf block over two subnodes (003, 2.2.2.8.3.3.1).
+    /// A tree of one leaf block over two subnodes (003, 2.2.2.8.3.3.1). Files of 32 bits have no padding
+    /// before the entries, as the block of a real one shows.
     fn place_subnodes(&mut self, node: u32) {
-        let table = given_table(&RECIPIENTS, vec![(1, &recipient())]);
-        let table = place_table(&mut self.builder.space.random, &table);
+        let recipient = texts_of(self.edition, recipient());
+        let columns = tags_of(self.edition, &RECIPIENTS);
+        let table = self.place_given(&given_table(&columns, vec![(1, &recipient)]));
         let builder = &mut self.builder;
-        let table = builder.place_data(table.block);
         let page = builder.place_data(page());
-        let mut leaf = vec![2, 0, 2, 0, 0, 0, 0, 0];
-        for field in [
-            u64::from(RECIPIENT_TABLE),
-            table,
-            0,
-            u64::from(PAGE),
-            page,
-            0,
-        ] {
-            leaf.extend_from_slice(&field.to_le_bytes());
+        let width = self.edition.layout().width;
+        let mut leaf = vec![2, 0, 2, 0];
+        leaf.resize(width, 0);
+        for (subnode, data) in [(RECIPIENT_TABLE, table), (PAGE, page)] {
+            for field in [u64::from(subnode), data, 0] {
+                leaf.extend_from_slice(&field.to_le_bytes()[..width]);
+            }
         }
         let leaf = builder.blocks.place(&mut builder.space, leaf, true);
         let node = builder.nodes.get_mut(&node);
@@ -241,7 +251,7 @@ impl Builder {
     }
 }
 
-/// Text as properties hold it: two bytes a unit. An empty text has no item.
+/// Text as properties of 64-bit files hold it: two bytes a unit. An empty text has no item.
 fn text(text: &str) -> Given {
     if text.is_empty() {
         Given::Empty

@@ -4,7 +4,7 @@ use super::seal::seal_page;
 use super::space::Space;
 use super::{without_bit_0, PlacedPage};
 use crate::bytes::put;
-use crate::header::Reference;
+use crate::edition::{Entries, Layout, Reference};
 use crate::page::{Tree, MOST_LEVEL, PAGE};
 
 /// A leaf or index entry, and its key as stored; of a node the low four bytes.
@@ -23,14 +23,14 @@ pub struct Grower<'a> {
 }
 
 /// The lowest level of a root over so many entries.
-pub fn least_level(tree: Tree, entries: usize) -> u8 {
+pub fn least_level(layout: &Layout, tree: Tree, entries: usize) -> u8 {
     (0..MOST_LEVEL)
-        .find(|&level| entries <= capacity(tree, level))
+        .find(|&level| entries <= capacity(layout, tree, level))
         .unwrap_or(MOST_LEVEL)
 }
 
-fn capacity(tree: Tree, level: u8) -> usize {
-    tree.most_entries(0) * tree.most_entries(1).pow(u32::from(level))
+fn capacity(layout: &Layout, tree: Tree, level: u8) -> usize {
+    layout.entries(tree, 0).most * layout.index.most.pow(u32::from(level))
 }
 
 impl Grower<'_> {
@@ -46,7 +46,8 @@ impl Grower<'_> {
         if level == 0 {
             return self.write(entries, level);
         }
-        let parts = self.split(entries.len(), capacity(self.tree, level - 1));
+        let most = capacity(self.space.layout, self.tree, level - 1);
+        let parts = self.split(entries.len(), most);
         let (mut rest, mut low, mut before) = (entries, low, before);
         let mut index = Vec::new();
         for part in parts {
@@ -61,13 +62,15 @@ impl Grower<'_> {
         self.write(&index, level)
     }
 
-    /// Cuts so many entries into at most 20 parts that each hold 1 to `most`.
+    /// Cuts so many entries into at most as many parts as an index page has room for; each holds 1 to
+    /// `most`.
     fn split(&mut self, entries: usize, most: usize) -> Vec<usize> {
         let least = entries.div_ceil(most);
         let parts = if self.space.tidy {
             least
         } else {
-            let highest = (least + self.most_spare).min(entries).min(20).max(least);
+            let room = self.space.layout.index.most;
+            let highest = (least + self.most_spare).min(entries).min(room).max(least);
             self.space.random.between(least, highest)
         };
         let mut left = entries;
@@ -108,35 +111,33 @@ impl Grower<'_> {
             }
             Tree::Nodes => (key, key),
         };
+        let layout = self.space.layout;
+        let mut bytes = vec![0; layout.index.size];
         let fields = [stored, child.number, child.offset];
-        let bytes = fields.iter().flat_map(|field| field.to_le_bytes());
-        Entry {
-            key,
-            bytes: bytes.collect(),
+        for (at, field) in fields.into_iter().enumerate() {
+            layout.put_number(&mut bytes, at * layout.width, field);
         }
+        Entry { key, bytes }
     }
 
     fn write(&mut self, entries: &[Entry], level: u8) -> Reference {
         let offset = self.space.take(PAGE);
         let number = self.number();
-        let most = self.tree.most_entries(level);
+        let layout = self.space.layout;
+        let Entries { size, most } = layout.entries(self.tree, level);
         let room = if self.space.tidy {
             most
         } else {
             self.space.random.between(entries.len(), most)
         };
         let page = &mut self.space.bytes[offset..offset + PAGE];
-        let size = self.tree.entry_size(level);
         for (at, entry) in entries.iter().enumerate() {
             put(page, at * size, &entry.bytes);
         }
-        put(
-            page,
-            488,
-            &[entries.len() as u8, room as u8, size as u8, level],
-        );
-        put(page, 496, &[self.tree.kind(); 2]);
-        put(page, 504, &number.to_le_bytes());
+        let counts = [entries.len() as u8, room as u8, size as u8, level];
+        put(page, layout.page.counts, &counts);
+        put(page, layout.page.kinds, &[self.tree.kind(); 2]);
+        layout.put_number(page, layout.page.number, number);
         seal_page(&mut self.space.bytes, offset);
         self.pages.push(PlacedPage {
             tree: self.tree,
@@ -155,7 +156,7 @@ impl Grower<'_> {
         if self.space.tidy || self.space.random.one_in(2) {
             0x200 + self.pages.len() as u64
         } else {
-            self.space.random.number()
+            self.space.any_number()
         }
     }
 }

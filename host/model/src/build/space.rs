@@ -1,11 +1,14 @@
 //! The growing image.
 
 use super::Plan;
+use crate::bytes::put;
+use crate::edition::{Edition, Layout, VERSION};
 use crate::page::FIRST_OFFSET;
 use crate::random::Random;
 
 pub struct Space {
     pub bytes: Vec<u8>,
+    pub layout: &'static Layout,
     pub random: Random,
     /// No gaps, no stale bytes, plain numbers.
     pub tidy: bool,
@@ -16,13 +19,29 @@ impl Space {
     pub fn new(seed: u64, plan: &Plan) -> Self {
         let mut space = Self {
             bytes: Vec::new(),
+            layout: plan.edition.layout(),
             random: Random::new(seed),
             tidy: plan.tidy,
             loose_bit_0: plan.loose_bit_0,
         };
-        let head = space.fresh(FIRST_OFFSET as usize);
-        space.bytes.extend_from_slice(&head);
+        space.bytes = space.fresh(FIRST_OFFSET as usize);
+        let version = space.version(plan.edition);
+        put(&mut space.bytes, VERSION, &version.to_le_bytes());
         space
+    }
+
+    /// The edition of 32 bits has two.
+    fn version(&mut self, edition: Edition) -> u16 {
+        match edition {
+            Edition::Bits64 => 23,
+            Edition::Bits32 if self.tidy => 14,
+            Edition::Bits32 => self.random.one_of([14, 15]),
+        }
+    }
+
+    /// Any number that a field has room for.
+    pub fn any_number(&mut self) -> u64 {
+        self.random.number() & self.layout.highest()
     }
 
     /// Bytes that no rule looks at: zeros, or in an untidy image sometimes anything.

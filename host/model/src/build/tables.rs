@@ -5,11 +5,12 @@ mod layout;
 mod worked;
 
 use super::items::{GivenTree, Items, TreeItem};
+use crate::edition::Edition;
 use crate::random::Random;
 use crate::table::{Cell, Column, Rows, Table, TABLE};
 use std::collections::BTreeMap;
 
-pub use any::{any_table, real_size, table_context, TablePlan};
+pub use any::{any_table, any_table_of, real_size, real_size_of, table_context, TablePlan};
 pub use layout::{odd_layout, usual_layout, usual_width, Layout, ROW_ID, ROW_VERSION};
 pub use worked::{worked_example, HIERARCHY};
 
@@ -52,6 +53,8 @@ pub struct GivenTable {
 /// A table's block, the block of its rows, and what stands in them.
 #[derive(Clone, Debug)]
 pub struct PlacedTable {
+    /// Of the row index; all else is alike in both.
+    pub edition: Edition,
     pub block: Vec<u8>,
     /// Empty unless the rows lie in a subnode.
     pub rows: Vec<u8>,
@@ -70,18 +73,24 @@ pub struct PlacedTable {
     pub row_index: BTreeMap<u32, u32>,
 }
 
-/// The caller keeps the block and the rows' block within 8,176 bytes.
+/// A table of a 64-bit file.
 pub fn place_table(random: &mut Random, given: &GivenTable) -> PlacedTable {
+    place_table_of(Edition::Bits64, random, given)
+}
+
+/// The caller keeps the block and the rows' block within the bytes that a block can have.
+pub fn place_table_of(edition: Edition, random: &mut Random, given: &GivenTable) -> PlacedTable {
     let mut items = Items::new(random, given.tidy);
     let row_index_item = items.add(Vec::new());
     let user_root = items.add(Vec::new());
-    let row_index = items.add_tree(&row_tree(given));
+    let row_index = items.add_tree(&row_tree(edition, given));
     items.set(row_index_item, row_index);
     let (cells, rows, rows_block) = place_rows(&mut items, given);
     let record = record(&given.layout, row_index_item, rows);
     items.set(user_root, record);
     let Layout { columns, ends } = given.layout.clone();
     PlacedTable {
+        edition,
         block: items.lay_out(TABLE, user_root),
         rows: rows_block,
         items: items.list,
@@ -100,15 +109,16 @@ pub fn place_table(random: &mut Random, given: &GivenTable) -> PlacedTable {
     }
 }
 
-fn row_tree(given: &GivenTable) -> GivenTree {
+fn row_tree(edition: Edition, given: &GivenTable) -> GivenTree {
+    let width = edition.layout().row_number;
     let records = given.row_index.iter().map(|(&id, row)| {
         let mut record = id.to_le_bytes().to_vec();
-        record.extend_from_slice(&row.to_le_bytes());
+        record.extend_from_slice(&row.to_le_bytes()[..width]);
         (id, record)
     });
     GivenTree {
         key: 4,
-        entry: 4,
+        entry: width as u8,
         levels: given.index_levels,
         records: records.collect(),
     }

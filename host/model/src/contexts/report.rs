@@ -3,6 +3,7 @@
 
 use super::{contexts, Context};
 use crate::build::tables::ROW_ID;
+use crate::edition::Edition;
 use crate::report::{area_in_words, or_refusal};
 use crate::{Answer, Cell, Column, Rows, Table};
 use std::fmt::{Display, Write};
@@ -19,9 +20,16 @@ pub fn report() -> String {
     contexts().iter().map(lines_on).collect()
 }
 
-/// Whether the report on a table has that refusal.
+/// Whether the report on a table has that refusal, the row index of the other edition left out.
 pub fn shows(context: &Context, refusal: u64) -> bool {
-    lines_on(context).contains(&format!("refused {refusal} at"))
+    let other = match context.edition {
+        Edition::Bits64 => "find_row32 ",
+        Edition::Bits32 => "find_row ",
+    };
+    let refused = format!("refused {refusal} at");
+    let lines = lines_on(context);
+    let mut own = lines.lines().filter(|line| !line.starts_with(other));
+    own.any(|line| line.contains(&refused))
 }
 
 fn lines_on(context: &Context) -> String {
@@ -111,10 +119,15 @@ impl Asked<'_> {
         });
         for id in [0].into_iter().chain(ids).chain([u32::MAX]) {
             let row = crate::find_row(self.block, id);
-            let words = row.map(|row| row.map_or("absent".into(), |row| format!("row {row}")));
-            self.say(format!("find_row {id:08x}"), or_refusal(words));
+            self.say(format!("find_row {id:08x}"), row_in_words(row));
+            let row = crate::find_row32(self.block, id);
+            self.say(format!("find_row32 {id:08x}"), row_in_words(row));
         }
     }
+}
+
+fn row_in_words(row: Answer<Option<u32>>) -> String {
+    or_refusal(row.map(|row| row.map_or("absent".into(), |row| format!("row {row}"))))
 }
 
 fn table_in_words(table: Table) -> String {

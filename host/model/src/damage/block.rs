@@ -3,9 +3,8 @@
 use super::{Damage, Spoiler};
 use crate::block::is_internal;
 use crate::build::end::move_block;
-use crate::build::seal::{seal_block, seal_page, trailer_at};
-use crate::build::{without_bit_0, PlacedBlock};
-use crate::bytes::{put, u64_at};
+use crate::build::{most_size_and_children, without_bit_0, PlacedBlock};
+use crate::bytes::put;
 use crate::checksum::signature;
 use crate::coding::encode;
 
@@ -14,6 +13,7 @@ impl<'a> Spoiler<'a> {
         let Some(block) = self.block_for(damage) else {
             return;
         };
+        let layout = self.layout();
         self.look_at_block(block.number);
         match damage {
             Damage::ListedOffset | Damage::ListedSize => self.listed(damage, block),
@@ -28,9 +28,9 @@ impl<'a> Spoiler<'a> {
             }
             Damage::MoveToEnd => self.move_to_end(block),
             Damage::TrailerSize => self.trailer(block, 0, 2),
-            Damage::TrailerSignature => self.trailer(block, 2, 4),
-            Damage::TrailerSum => self.trailer(block, 4, 8),
-            Damage::TrailerNumber => self.trailer(block, 8, 16),
+            Damage::TrailerSignature => self.trailer(block, 2, 2),
+            Damage::TrailerSum => self.trailer(block, layout.trailer.sum, 4),
+            Damage::TrailerNumber => self.trailer(block, layout.trailer.number, layout.width),
             Damage::TrailerBit0 | Damage::TrailerBits => self.trailer_bits(damage, block),
             Damage::SignatureBit0 => self.signature_bit_0(block),
             Damage::CodedBit0 => self.coded_bit_0(block),
@@ -71,24 +71,32 @@ impl<'a> Spoiler<'a> {
         let Some((page, entry)) = self.built.listing(block.number) else {
             return;
         };
+        let layout = self.layout();
         if damage == Damage::ListedOffset {
             let odd = self.odd_offset(block.offset as u64);
-            put(&mut self.image, entry + 8, &odd.to_le_bytes());
+            layout.put_number(&mut self.image, entry + layout.width, odd);
         } else {
+            let (most, _) = most_size_and_children(self.built.edition);
             let near = [
                 block.size.wrapping_sub(1),
                 block.size + 1,
                 0,
-                8176,
-                8177,
+                most as u16,
+                most as u16 + 1,
                 u16::MAX,
             ];
             let odd = self.random.one_of(near);
-            put(&mut self.image, entry + 16, &odd.to_le_bytes());
+            self.put_size(entry, odd);
         }
         if self.sealed {
-            seal_page(&mut self.image, page);
+            self.layout().seal_page(&mut self.image, page);
         }
+    }
+
+    /// The size in the block's listing.
+    pub(super) fn put_size(&mut self, entry: usize, size: u16) {
+        let place = entry + 2 * self.layout().width;
+        put(&mut self.image, place, &size.to_le_bytes());
     }
 
     /// A smaller block in the same place, right in itself where it is sealed.
@@ -96,10 +104,11 @@ impl<'a> Spoiler<'a> {
         let Some((page, entry)) = self.built.listing(block.number) else {
             return;
         };
-        put(&mut self.image, entry + 16, &size.to_le_bytes());
-        seal_page(&mut self.image, page);
+        self.put_size(entry, size);
+        self.layout().seal_page(&mut self.image, page);
         if self.sealed {
-            seal_block(&mut self.image, block.offset, size, block.number);
+            self.layout()
+                .seal_block(&mut self.image, block.offset, size, block.number);
         }
     }
 
@@ -119,26 +128,28 @@ impl<'a> Spoiler<'a> {
             return;
         };
         self.image[entry] ^= 1;
-        seal_page(&mut self.image, page);
+        self.layout().seal_page(&mut self.image, page);
         if self.sealed {
-            seal_block(&mut self.image, block.offset, block.size, block.number ^ 1);
+            self.layout()
+                .seal_block(&mut self.image, block.offset, block.size, block.number ^ 1);
         }
     }
 
     /// Bit 0 of the trailer's number, alone or with another bit.
     fn trailer_bits(&mut self, damage: Damage, block: &PlacedBlock) {
-        let number = trailer_at(block.offset, block.size) + 8;
-        let mut odd = u64_at(&self.image, number) ^ 1;
+        let layout = self.layout();
+        let number = self.trailer_of(block) + layout.trailer.number;
+        let mut odd = layout.number_at(&self.image, number) ^ 1;
         if damage == Damage::TrailerBits {
-            odd ^= 1 << self.random.between(1, 63);
+            odd ^= 1 << self.random.between(1, 8 * layout.width - 1);
         }
-        put(&mut self.image, number, &odd.to_le_bytes());
+        layout.put_number(&mut self.image, number, odd);
     }
 
     /// The signature of the number with bit 0 the other way.
     fn signature_bit_0(&mut self, block: &PlacedBlock) {
         let odd = signature(block.offset as u64, block.number ^ 1);
-        let at = trailer_at(block.offset, block.size) + 2;
+        let at = self.trailer_of(block) + 2;
         put(&mut self.image, at, &odd.to_le_bytes());
     }
 
@@ -148,41 +159,50 @@ impl<'a> Spoiler<'a> {
         encode(self.built.method, block.number ^ 1, &mut stored).expect("a method of 0 to 2");
         put(&mut self.image, block.offset, &stored);
         if self.sealed {
-            seal_block(&mut self.image, block.offset, block.size, block.number);
+            self.layout()
+                .seal_block(&mut self.image, block.offset, block.size, block.number);
         }
     }
 
-    fn trailer(&mut self, block: &PlacedBlock, start: usize, end: usize) {
-        let trailer = trailer_at(block.offset, block.size);
-        self.flip(trailer + start, trailer + end);
+    pub(super) fn trailer_of(&self, block: &PlacedBlock) -> usize {
+        self.layout().trailer_at(block.offset, block.size)
+    }
+
+    /// Changes a field of so many bytes.
+    fn trailer(&mut self, block: &PlacedBlock, field: usize, length: usize) {
+        let start = self.trailer_of(block) + field;
+        self.flip(start, start + length);
     }
 
     fn stored(&mut self, damage: Damage, block: &PlacedBlock) {
         let (at, size) = (block.offset, usize::from(block.size));
+        let layout = self.layout();
+        let children = (size.max(8) - 8) / layout.width;
         match damage {
             Damage::TreeMark => self.flip(at, at + 1),
             Damage::TreeLevel => self.flip(at + 1, at + 2),
             Damage::TreeCount => {
-                let count = (size as u16 - 8) / 8;
-                let odd = self
-                    .random
-                    .one_of([0, count - 1, count + 1, 1021, 1022, u16::MAX]);
+                let count = children as u16;
+                let most = most_size_and_children(self.built.edition).1 as u16;
+                let near = [0, count - 1, count + 1, most, most + 1, u16::MAX];
+                let odd = self.random.one_of(near);
                 put(&mut self.image, at + 2, &odd.to_le_bytes());
             }
             Damage::TreeSum => self.flip(at + 4, at + 8),
             Damage::TreeChild => {
-                let child = at + 8 + 8 * self.random.below((size - 8) / 8);
-                let odd = self.odd_block(u64_at(&self.image, child));
-                put(&mut self.image, child, &odd.to_le_bytes());
+                let child = at + 8 + layout.width * self.random.below(children);
+                let odd = self.odd_block(layout.number_at(&self.image, child));
+                layout.put_number(&mut self.image, child, odd);
             }
             Damage::TreeBit0 => {
-                let child = at + 8 + 8 * self.random.below((size - 8) / 8);
+                let child = at + 8 + layout.width * self.random.below(children);
                 self.image[child] ^= 1;
             }
             _ => self.flip(at, at + size),
         }
         if self.sealed {
-            seal_block(&mut self.image, at, block.size, block.number);
+            self.layout()
+                .seal_block(&mut self.image, at, block.size, block.number);
         }
     }
 

@@ -2,7 +2,6 @@
 
 use super::{Damage, Spoiler};
 use crate::build::end::{move_block, move_page};
-use crate::build::seal::{put_end, seal_header, set_end};
 use crate::build::PlacedPage;
 use crate::header::LEAST_IMAGE;
 use crate::page::{FIRST_OFFSET, PAGE, STEP};
@@ -24,13 +23,14 @@ impl<'a> Spoiler<'a> {
 
     pub(super) fn end_with_image(&mut self) {
         let end = self.image.len() as u64;
-        set_end(&mut self.image, end);
+        self.layout().put_end(&mut self.image, end);
+        self.seal_header();
     }
 
     fn end_at(&mut self, end: u64) {
-        put_end(&mut self.image, end);
+        self.layout().put_end(&mut self.image, end);
         if self.sealed {
-            seal_header(&mut self.image);
+            self.seal_header();
         }
     }
 

@@ -69,7 +69,8 @@ impl Spoiler<'_> {
                 self.block.truncate(length);
             }
             Longer => {
-                let length = self.random.one_of([8175, 8176, 8177, 9000, 70_000]);
+                let about = self.random.between(8175, 8182);
+                let length = self.random.one_of([about, about, 9000, 70_000]);
                 self.block.resize(length, 0);
             }
             Mark => self.flip(2, 3),

@@ -1,7 +1,6 @@
 //! Damage to the keys of a page: to their order, to their range, or to both.
 
 use super::{Damage, Spoiler};
-use crate::build::seal::seal_page;
 use crate::build::PlacedPage;
 use crate::bytes::put;
 use crate::page::Tree;
@@ -9,9 +8,6 @@ use std::collections::BTreeMap;
 
 /// The least step between keys that differ in both trees.
 const STEP: u64 = 2;
-
-/// Room for a page of keys above a range.
-const ROOM_ABOVE: u64 = 24 * STEP;
 
 /// The keys just outside a page's range, where there are any.
 #[derive(Clone, Copy)]
@@ -82,10 +78,12 @@ impl<'a> Spoiler<'a> {
 
     fn outside(&self, page: &'a PlacedPage) -> Outside {
         let key = |number| page.tree.key(number);
-        let end = Some(self.end(page)).filter(|&end| end < u64::MAX);
-        let highest = key(u64::MAX) - ROOM_ABOVE;
+        let end = Some(self.built.range_end(page)).filter(|&end| end < u64::MAX);
+        // Above a range there is room for a page of keys and a few more.
+        let room = STEP * (self.layout().index.most as u64 + 4);
+        let highest = key(self.layout().highest()) - room;
         Outside {
-            below: key(self.low(page)).checked_sub(STEP),
+            below: key(self.built.range_low(page)).checked_sub(STEP),
             above: end.map(key).filter(|&end| end <= highest),
         }
     }
@@ -109,7 +107,7 @@ impl<'a> Spoiler<'a> {
     fn order(&mut self, page: &'a PlacedPage, keys: &mut [u64]) {
         let at = self.entry(1, keys.len() - 1);
         let any_before = keys[self.random.below(at)];
-        let low = self.low(page);
+        let low = self.built.range_low(page);
         keys[at] = self.random.one_of([keys[at - 1], any_before, low]);
     }
 
@@ -166,17 +164,18 @@ impl<'a> Spoiler<'a> {
 
     /// The high half of a node's number stays as it is.
     fn put_keys(&mut self, page: &PlacedPage, keys: &[u64]) {
-        let size = page.tree.entry_size(page.level);
+        let layout = self.layout();
+        let size = layout.entries(page.tree, page.level).size;
         let width = match page.tree {
             Tree::Nodes => 4,
-            Tree::Blocks => 8,
+            Tree::Blocks => layout.width,
         };
         for (at, key) in keys.iter().enumerate() {
             let bytes = &key.to_le_bytes()[..width];
             put(&mut self.image, page.offset + at * size, bytes);
         }
         if self.sealed {
-            seal_page(&mut self.image, page.offset);
+            self.layout().seal_page(&mut self.image, page.offset);
         }
     }
 }

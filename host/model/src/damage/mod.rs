@@ -17,6 +17,7 @@ macro_rules! kinds {
 }
 
 mod block;
+mod edition;
 mod end;
 mod header;
 pub mod heap;
@@ -25,6 +26,7 @@ mod page;
 pub mod table;
 
 use crate::build::Built;
+use crate::edition::Layout;
 use crate::header::LEAST_IMAGE;
 use crate::random::Random;
 
@@ -114,6 +116,18 @@ kinds! {
             PageBehind,
             BlockBehind,
         ]
+        EDITION [
+            OtherEdition,
+            OtherSentinel,
+            OtherRoots,
+            OtherEnd,
+            OtherPage,
+            OtherPageSum,
+            EntriesOver,
+            OtherTrailer,
+            TrailerExchanged,
+            SizeAboutMost,
+        ]
     }
 }
 
@@ -173,6 +187,10 @@ impl<'a> Spoiler<'a> {
         }
     }
 
+    fn layout(&self) -> &'static Layout {
+        self.built.layout()
+    }
+
     fn finish(self) -> Spoilt {
         Spoilt {
             image: self.image,
@@ -192,6 +210,8 @@ impl<'a> Spoiler<'a> {
             self.spoil_block(damage);
         } else if END.contains(&damage) {
             self.spoil_end(damage);
+        } else if EDITION.contains(&damage) {
+            self.spoil_edition(damage);
         } else if damage == Cut {
             self.cut();
         } else {
@@ -233,7 +253,7 @@ impl<'a> Spoiler<'a> {
             4 => length & !63,
             5 => (length & !63).wrapping_sub(448),
             6 => u64::MAX - 63,
-            7 => now | 1 << 40,
+            7 => now | 1 << (5 * self.layout().width),
             8 => 0,
             _ => self.random.number(),
         }
@@ -243,7 +263,7 @@ impl<'a> Spoiler<'a> {
     fn odd_number(&mut self, now: u64) -> u64 {
         match self.random.below(4) {
             0 => now.wrapping_add(1),
-            1 => now ^ 1 << self.random.below(64),
+            1 => now ^ 1 << self.random.below(8 * self.layout().width),
             2 => self.random.below(64) as u64,
             _ => self.random.number(),
         }

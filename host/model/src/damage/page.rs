@@ -1,9 +1,8 @@
 //! Damage to a page of either tree.
 
 use super::{Damage, Spoiler};
-use crate::build::seal::seal_page;
 use crate::build::{without_bit_0, PlacedPage};
-use crate::bytes::{put, u64_at};
+use crate::bytes::put;
 use crate::page::Tree;
 
 impl<'a> Spoiler<'a> {
@@ -11,16 +10,17 @@ impl<'a> Spoiler<'a> {
         let Some(page) = self.page_for(damage) else {
             return;
         };
-        let offset = page.offset;
+        let (offset, layout) = (page.offset, self.layout());
+        let number = offset + layout.page.number;
         self.look_at(page.tree, &page.keys);
         match damage {
-            Damage::PageKind => self.page_kind(offset),
-            Damage::PageNumber => self.flip(offset + 504, offset + 512),
-            Damage::PageByte => self.flip(offset, offset + 496),
+            Damage::PageKind => self.page_kind(offset + layout.page.kinds),
+            Damage::PageNumber => self.flip(number, number + layout.width),
+            Damage::PageByte => self.flip(offset, offset + layout.page.summed),
             Damage::PageLevel | Damage::EntrySize | Damage::PageRoom | Damage::PageCount => {
                 self.page_counts(damage, offset);
             }
-            Damage::PageBit0 => self.image[offset + 504] ^= 1,
+            Damage::PageBit0 => self.image[number] ^= 1,
             Damage::ChildNumber | Damage::ChildOffset | Damage::ChildGraft | Damage::ChildBit0 => {
                 self.child(damage, page);
             }
@@ -32,11 +32,12 @@ impl<'a> Spoiler<'a> {
             _ => self.keys(damage, page),
         }
         if self.sealed {
-            seal_page(&mut self.image, offset);
+            self.layout().seal_page(&mut self.image, offset);
         }
+        let [signature, sum] = [layout.page.signature, layout.page.sum].map(|at| offset + at);
         match damage {
-            Damage::PageSignature => self.flip(offset + 498, offset + 500),
-            Damage::PageSum => self.flip(offset + 500, offset + 504),
+            Damage::PageSignature => self.flip(signature, signature + 2),
+            Damage::PageSum => self.flip(sum, sum + 4),
             _ => {}
         }
     }
@@ -56,7 +57,7 @@ impl<'a> Spoiler<'a> {
             | Damage::KeyUpperHalf
             | Damage::KeyBit0
             | Damage::KeyAtLow => !page.keys.is_empty(),
-            Damage::KeyAtEnd => !page.keys.is_empty() && self.end(page) < u64::MAX,
+            Damage::KeyAtEnd => !page.keys.is_empty() && self.built.range_end(page) < u64::MAX,
             _ => true,
         };
         let chosen = |page: &&PlacedPage| !roots_only || page.is_root;
@@ -78,24 +79,31 @@ impl<'a> Spoiler<'a> {
         seen.extend_from_slice(keys);
     }
 
-    fn page_kind(&mut self, offset: usize) {
+    fn page_kind(&mut self, kinds: usize) {
         let kind = self.random.one_of([0x80, 0x81, 0x84, 0]);
         match self.random.below(3) {
-            0 => self.image[offset + 496] = kind,
-            1 => self.image[offset + 497] = kind,
-            _ => put(&mut self.image, offset + 496, &[kind; 2]),
+            0 => self.image[kinds] = kind,
+            1 => self.image[kinds + 1] = kind,
+            _ => put(&mut self.image, kinds, &[kind; 2]),
         }
     }
 
     fn page_counts(&mut self, damage: Damage, offset: usize) {
+        let layout = self.layout();
+        let [nodes, index] = [layout.node_leaf, layout.index];
+        let [few, many] = [nodes.most as u8, index.most as u8];
+        let [size, node_size] = [index.size as u8, nodes.size as u8];
+        let most = [0, 1, few, few + 1, many, many + 1];
         let (at, edges) = match damage {
-            Damage::PageCount => (488, [0, 1, 15, 16, 20, 21]),
-            Damage::PageRoom => (489, [0, 1, 15, 16, 20, 21]),
-            Damage::EntrySize => (490, [24, 32, 0, 16, 23, 31]),
-            _ => (491, [0, 1, 6, 7, 8, 8]),
+            Damage::PageCount => (0, most),
+            Damage::PageRoom => (1, most),
+            // 16 is an entry's size in one of the editions.
+            Damage::EntrySize => (2, [size, node_size, 0, 16, size - 1, node_size - 1]),
+            _ => (3, [0, 1, 6, 7, 8, 8]),
         };
-        let now = self.image[offset + at];
-        self.image[offset + at] = match self.random.below(4) {
+        let place = offset + layout.page.counts + at;
+        let now = self.image[place];
+        self.image[place] = match self.random.below(4) {
             0 => now.wrapping_add(1),
             1 => now.wrapping_sub(1),
             2 => self.random.byte(),
@@ -104,100 +112,84 @@ impl<'a> Spoiler<'a> {
     }
 
     fn keys(&mut self, damage: Damage, page: &'a PlacedPage) {
-        let size = page.tree.entry_size(page.level);
+        let layout = self.layout();
+        let size = layout.entries(page.tree, page.level).size;
         let last = page.keys.len() - 1;
         let key_at = |at: usize| page.offset + at * size;
         match damage {
             Damage::KeyEqual => {
                 let at = self.random.between(1, last);
-                let key = page.keys[at - 1];
-                put(&mut self.image, key_at(at), &key.to_le_bytes());
+                self.put_key(page, at, page.keys[at - 1]);
             }
             Damage::KeySwap => {
                 let at = self.random.between(1, last);
-                let (low, high) = (page.keys[at - 1], page.keys[at]);
-                put(&mut self.image, key_at(at - 1), &high.to_le_bytes());
-                put(&mut self.image, key_at(at), &low.to_le_bytes());
+                self.put_key(page, at - 1, page.keys[at]);
+                self.put_key(page, at, page.keys[at - 1]);
             }
             Damage::KeyLow => {
-                let (key, low) = (page.keys[0], self.low(page));
+                let (key, low) = (page.keys[0], self.built.range_low(page));
                 let edges = [0, key.saturating_sub(1), key / 2, low, low.wrapping_sub(1)];
                 let lower = self.random.one_of(edges);
-                put(&mut self.image, key_at(0), &lower.to_le_bytes());
+                self.put_key(page, 0, lower);
             }
             Damage::KeyHigh => {
-                let (key, end) = (page.keys[last], self.end(page));
+                let (key, end) = (page.keys[last], self.built.range_end(page));
                 let edges = [u64::MAX, key.wrapping_add(1), key | key << 1, end, end - 1];
                 let higher = self.random.one_of(edges);
-                put(&mut self.image, key_at(last), &higher.to_le_bytes());
+                self.put_key(page, last, higher);
             }
             _ => {
-                let at = self.random.between(0, last);
-                self.flip(key_at(at) + 4, key_at(at) + 8);
+                let key = key_at(self.random.between(0, last));
+                self.flip(key + layout.width / 2, key + layout.width);
             }
         }
     }
 
+    fn put_key(&mut self, page: &PlacedPage, at: usize, key: u64) {
+        let layout = self.layout();
+        let size = layout.entries(page.tree, page.level).size;
+        layout.put_number(&mut self.image, page.offset + at * size, key);
+    }
+
     /// Keys that are equal, to one another or to an end of the page's range, but for bit 0.
     fn bit_0_of_keys(&mut self, damage: Damage, page: &'a PlacedPage) {
-        let size = page.tree.entry_size(page.level);
         let last = page.keys.len() - 1;
         let (at, key) = match damage {
             Damage::KeyTwin => {
                 let at = self.random.between(1, last);
                 let key = page.keys[at - 1];
-                let low = without_bit_0(key).to_le_bytes();
-                put(&mut self.image, page.offset + (at - 1) * size, &low);
+                self.put_key(page, at - 1, without_bit_0(key));
                 (at, key | 1)
             }
-            Damage::KeyAtLow => (0, self.low(page) ^ 1),
-            Damage::KeyAtEnd => (last, self.end(page) ^ self.random.below(2) as u64),
+            Damage::KeyAtLow => (0, self.built.range_low(page) ^ 1),
+            Damage::KeyAtEnd => {
+                let end = self.built.range_end(page);
+                (last, end ^ self.random.below(2) as u64)
+            }
             _ => {
                 let at = self.random.between(0, last);
                 (at, page.keys[at] ^ 1)
             }
         };
-        let place = page.offset + at * size;
-        put(&mut self.image, place, &key.to_le_bytes());
+        self.put_key(page, at, key);
         self.look_at(page.tree, &[key, key ^ 1]);
     }
 
-    /// The keys of the index pages above the page's level.
-    fn keys_above(&self, page: &'a PlacedPage) -> impl Iterator<Item = u64> + 'a {
-        let pages = self.built.pages.iter();
-        let above = pages.filter(|other| other.tree == page.tree && other.level > page.level);
-        above.flat_map(|other| other.keys.iter().copied())
-    }
-
-    /// Where the page's range begins.
-    pub(super) fn low(&self, page: &'a PlacedPage) -> u64 {
-        let first = page.tree.key(page.keys[0]);
-        let keys = self.keys_above(page);
-        let up_to_first = keys.filter(|&key| page.tree.key(key) <= first);
-        up_to_first.max().unwrap_or(0)
-    }
-
-    /// The first key behind the page's range.
-    pub(super) fn end(&self, page: &'a PlacedPage) -> u64 {
-        let last = page.tree.key(page.keys[page.keys.len() - 1]);
-        let keys = self.keys_above(page);
-        let behind_last = keys.filter(|&key| last < page.tree.key(key));
-        behind_last.min().unwrap_or(u64::MAX)
-    }
-
     fn child(&mut self, damage: Damage, page: &PlacedPage) {
-        let at = page.offset + 24 * self.random.below(page.keys.len());
+        let layout = self.layout();
+        let entry = page.offset + layout.index.size * self.random.below(page.keys.len());
+        let [number, offset] = [1, 2].map(|field| entry + field * layout.width);
         match damage {
             Damage::ChildNumber => {
-                let odd = self.odd_number(u64_at(&self.image, at + 8));
-                put(&mut self.image, at + 8, &odd.to_le_bytes());
+                let odd = self.odd_number(layout.number_at(&self.image, number));
+                layout.put_number(&mut self.image, number, odd);
             }
             Damage::ChildOffset => {
-                let odd = self.odd_offset(u64_at(&self.image, at + 16));
-                put(&mut self.image, at + 16, &odd.to_le_bytes());
+                let odd = self.odd_offset(layout.number_at(&self.image, offset));
+                layout.put_number(&mut self.image, offset, odd);
             }
-            Damage::ChildBit0 => self.image[at + 8] ^= 1,
-            _ => self.graft(at + 8),
+            Damage::ChildBit0 => self.image[number] ^= 1,
+            _ => self.graft(number),
         }
     }
 
@@ -206,14 +198,15 @@ impl<'a> Spoiler<'a> {
             return;
         }
         let at = self.random.below(page.keys.len());
-        let data = page.offset + 32 * at + 8;
-        let now = u64_at(&self.image, data);
+        let layout = self.layout();
+        let data = page.offset + layout.node_leaf.size * at + layout.width;
+        let now = layout.number_at(&self.image, data);
         let odd = match damage {
             Damage::DataBit0 => now ^ 1,
             Damage::DataOne => 1,
             _ => self.odd_block(now),
         };
-        put(&mut self.image, data, &odd.to_le_bytes());
+        layout.put_number(&mut self.image, data, odd);
         self.nodes.push(page.keys[at]);
     }
 }

@@ -7,6 +7,7 @@ mod row_index;
 use crate::build::items::lay_out;
 use crate::build::tables::{put_row, record, Layout, PlacedTable};
 use crate::bytes::u16_at;
+use crate::edition::Edition;
 use crate::heap::{MOST_HEAP, MOST_ITEMS};
 use crate::random::Random;
 use crate::table::{Cell, Rows, MOST_ROWS, TABLE};
@@ -151,6 +152,7 @@ const MOST_KEPT: usize = 3;
 
 struct Spoiler<'a> {
     random: &'a mut Random,
+    edition: Edition,
     side: Side,
     items: Vec<Vec<u8>>,
     kind: u8,
@@ -184,6 +186,7 @@ impl<'a> Spoiler<'a> {
         let rows = placed.table.rows;
         Self {
             random,
+            edition: placed.edition,
             side,
             items: placed.items.clone(),
             kind: TABLE,

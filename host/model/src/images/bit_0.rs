@@ -7,22 +7,23 @@ use crate::build::bit_0::{
 };
 use crate::build::Built;
 use crate::coding::{CYCLIC, NONE, PERMUTE};
+use crate::edition::Edition;
 
-pub fn images() -> Vec<Image> {
+pub fn images(edition: Edition) -> Vec<Image> {
     let named = [
-        ("ticket", ticket()),
-        ("twins", twins()),
-        ("tree", data_trees()),
-        ("none", listed(NONE)),
-        ("permute", listed(PERMUTE)),
-        ("cyclic", listed(CYCLIC)),
-        ("data-one", data_one()),
-        ("data-one-alone", data_one_alone()),
-        ("index", index_keys()),
-        ("range-end", range_end()),
-        ("trailers", trailers()),
-        ("highest", highest()),
-        ("page-number", page_number()),
+        ("ticket", ticket(edition)),
+        ("twins", twins(edition)),
+        ("tree", data_trees(edition)),
+        ("none", listed(edition, NONE)),
+        ("permute", listed(edition, PERMUTE)),
+        ("cyclic", listed(edition, CYCLIC)),
+        ("data-one", data_one(edition)),
+        ("data-one-alone", data_one_alone(edition)),
+        ("index", index_keys(edition)),
+        ("range-end", range_end(edition)),
+        ("trailers", trailers(edition)),
+        ("highest", highest(edition)),
+        ("page-number", page_number(edition)),
     ];
     named.into_iter().map(image_of).collect()
 }

@@ -5,19 +5,20 @@ use crate::build::end::{
     block_behind, block_over, hanging_on, page_behind, page_over, root_behind, too_high, zero,
 };
 use crate::build::Built;
+use crate::edition::Edition;
 
-pub fn images() -> Vec<Image> {
+pub fn images(edition: Edition) -> Vec<Image> {
     let named = [
-        ("zero", zero()),
-        ("too-high", too_high()),
-        ("hanging-on", hanging_on()),
-        ("root-behind", root_behind()),
-        ("page-behind", page_behind()),
-        ("page-over", page_over(64)),
-        ("page-at", page_over(0)),
-        ("block-behind", block_behind()),
-        ("block-over", block_over(1)),
-        ("block-at", block_over(0)),
+        ("zero", zero(edition)),
+        ("too-high", too_high(edition)),
+        ("hanging-on", hanging_on(edition)),
+        ("root-behind", root_behind(edition)),
+        ("page-behind", page_behind(edition)),
+        ("page-over", page_over(edition, 64)),
+        ("page-at", page_over(edition, 0)),
+        ("block-behind", block_behind(edition)),
+        ("block-over", block_over(edition, 1)),
+        ("block-at", block_over(edition, 0)),
     ];
     named.into_iter().map(image_of).collect()
 }

@@ -5,17 +5,18 @@ use crate::build::keys::{
     below, equal, exchanged, index_last, order_first, range_first, shuffled, unsplit,
 };
 use crate::build::Built;
+use crate::edition::Edition;
 
-pub fn images() -> Vec<Image> {
+pub fn images(edition: Edition) -> Vec<Image> {
     let named = [
-        ("shuffled", shuffled()),
-        ("equal", equal()),
-        ("exchanged", exchanged()),
-        ("unsplit", unsplit()),
-        ("range-first", range_first()),
-        ("order-first", order_first()),
-        ("below", below()),
-        ("index-last", index_last()),
+        ("shuffled", shuffled(edition)),
+        ("equal", equal(edition)),
+        ("exchanged", exchanged(edition)),
+        ("unsplit", unsplit(edition)),
+        ("range-first", range_first(edition)),
+        ("order-first", order_first(edition)),
+        ("below", below(edition)),
+        ("index-last", index_last(edition)),
     ];
     named.into_iter().map(image_of).collect()
 }

@@ -3,9 +3,13 @@
 use super::{Image, BUFFER};
 use crate::build::lists::{deep, mixed};
 use crate::build::Built;
+use crate::edition::Edition;
 
-pub fn images() -> Vec<Image> {
-    vec![image_of("mixed", mixed()), image_of("level-3", deep())]
+pub fn images(edition: Edition) -> Vec<Image> {
+    vec![
+        image_of("mixed", mixed(edition)),
+        image_of("level-3", deep(edition)),
+    ]
 }
 
 /// Its nodes are asked for in the order of the tree, behind them numbers that it does not have.

@@ -128,13 +128,18 @@ impl<'a> Tested<'a> {
         }
     }
 
-    pub fn find_row(&self, id: u32) -> Answer<Option<u32>> {
-        let tree = HeapTree::<4, 4> {
+    /// In a row index whose row numbers have so many bytes.
+    pub fn find_row<const ENTRY: usize>(&self, id: u32) -> Answer<Option<u32>> {
+        let tree = HeapTree::<4, ENTRY> {
             heap: &self.heap,
             fault: 23,
         };
         let entry = tree.find(self.row_index, id)?;
-        Ok(entry.map(|entry| u32_at(entry, 0)))
+        Ok(entry.map(|entry| {
+            let mut row = [0; 4];
+            row[..ENTRY].copy_from_slice(entry);
+            u32::from_le_bytes(row)
+        }))
     }
 }
 

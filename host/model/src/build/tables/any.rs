@@ -2,9 +2,10 @@
 
 use super::layout::shuffle;
 use super::{
-    odd_layout, place_table, usual_layout, GivenCell, GivenTable, Layout, PlacedTable, RowsPlace,
-    ROW_ID, ROW_VERSION,
+    odd_layout, place_table_of, usual_layout, GivenCell, GivenTable, Layout, PlacedTable,
+    RowsPlace, ROW_ID, ROW_VERSION,
 };
+use crate::edition::Edition;
 use crate::heap::MOST_HEAP;
 use crate::random::Random;
 use crate::table::{is_reference, Column, MOST_ROWS};
@@ -12,6 +13,7 @@ use std::collections::{BTreeMap, BTreeSet};
 
 #[derive(Clone, Copy, Debug)]
 pub struct TablePlan {
+    pub edition: Edition,
     /// At most 255.
     pub columns: usize,
     pub rows: usize,
@@ -30,11 +32,11 @@ const REFERENCES: [u16; 11] = [
     0x1F, 0x1E, 0x102, 0x0D, 0x48, 0x1F, 0x101F, 0x1003, 0x1102, 0x1000, 0xFFFF,
 ];
 
-/// A table whose block and rows take at most 8,176 bytes each; too large a plan is cut down.
+/// A table whose block and rows take at most 8,180 bytes each; too large a plan is cut down.
 pub fn table_context(random: &mut Random, mut plan: TablePlan) -> PlacedTable {
     loop {
         let given = any_given(random, plan);
-        let placed = place_table(random, &given);
+        let placed = place_table_of(plan.edition, random, &given);
         if placed.block.len() <= MOST_HEAP && placed.rows.len() <= MOST_ROWS {
             return placed;
         }
@@ -43,11 +45,16 @@ pub fn table_context(random: &mut Random, mut plan: TablePlan) -> PlacedTable {
     }
 }
 
-/// Shapes of all kinds come up.
+/// A table of a 64-bit file; shapes of all kinds come up.
 pub fn any_table(random: &mut Random) -> PlacedTable {
+    any_table_of(Edition::Bits64, random)
+}
+
+pub fn any_table_of(edition: Edition, random: &mut Random) -> PlacedTable {
     let most = random.one_of([0, 1, 4, 13, 13, 30, 30, 80, 255]);
     let subnode = RowsPlace::Subnode(random.number() as u32 | 1);
     let plan = TablePlan {
+        edition,
         columns: random.below(most + 1).max(most * random.below(2)),
         rows: random.one_of([0, 1, 3, 10, 40, 120]),
         rows_place: random.one_of([RowsPlace::None, RowsPlace::Item, RowsPlace::Item, subnode]),
@@ -163,9 +170,10 @@ fn any_row_index(random: &mut Random, plan: TablePlan, ids: &[u32]) -> BTreeMap<
     let rows = ids.iter().enumerate().map(|(row, &id)| (id, row as u32));
     let mut index: BTreeMap<_, _> = rows.collect();
     if !plan.tidy {
+        let highest = u32::MAX >> (32 - 8 * plan.edition.layout().row_number);
         for _ in 0..random.below(4) {
             let (id, row) = (random.number() as u32, random.number() as u32);
-            index.insert(id, row);
+            index.insert(id, row & highest);
         }
         if let (Some(id), true) = (random.pick(ids), random.one_in(4)) {
             index.remove(id);
@@ -175,8 +183,12 @@ fn any_row_index(random: &mut Random, plan: TablePlan, ids: &[u32]) -> BTreeMap<
 }
 
 /// 30 columns in the usual layout and 100 rows of 81 bytes in a subnode's block, two of the columns with
-/// an item in each row; each time the same.
+/// an item in each row; each time the same, of a 64-bit file.
 pub fn real_size() -> PlacedTable {
+    real_size_of(Edition::Bits64)
+}
+
+pub fn real_size_of(edition: Edition) -> PlacedTable {
     let mut random = Random::new(30_100);
     let layout = usual_layout(&real_tags());
     let row = |at: u32| {
@@ -194,7 +206,7 @@ pub fn real_size() -> PlacedTable {
         index_levels: 0,
         tidy: true,
     };
-    place_table(&mut random, &given)
+    place_table_of(edition, &mut random, &given)
 }
 
 /// Ids as messages have them, row by row.

@@ -70,19 +70,20 @@ impl Spoiler<'_> {
     }
 
     fn place(&mut self, index: &RowIndex) -> Placed {
-        let leaves = index.leaves.iter().map(|leaf| self.add(records(leaf)));
-        let leaves: Vec<_> = leaves.collect();
+        let width = self.edition.layout().row_number;
+        let leaves = index.leaves.iter();
+        let leaves: Vec<_> = leaves.map(|leaf| self.add(records(leaf, width))).collect();
         let (mut root, mut named) = (leaves[0], None);
         if index.levels > 0 {
             let keys = index.keys.iter().copied();
             let children: Vec<_> = keys.zip(leaves.iter().copied()).collect();
-            root = self.add(records(&children));
+            root = self.add(records(&children, 4));
             named = Some(root);
         }
         for _ in 1..index.levels {
-            root = self.add(records(&[(index.keys[0], root)]));
+            root = self.add(records(&[(index.keys[0], root)], 4));
         }
-        let mut record = vec![TREE_MARK, 4, 4, index.levels];
+        let mut record = vec![TREE_MARK, 4, width as u8, index.levels];
         record.extend_from_slice(&root.to_le_bytes());
         self.row_index = self.add(record);
         Placed {
@@ -146,7 +147,8 @@ impl Spoiler<'_> {
                     }
                     IndexMark => record[0] ^= 1 << self.random.below(8),
                     IndexKeySize => record[1] = self.random.one_of([0, 2, 8]),
-                    IndexEntrySize => record[2] = self.random.one_of([0, 2, 6]),
+                    // That of the other edition, or of neither.
+                    IndexEntrySize => record[2] ^= self.random.one_of([4, 6, 2]),
                     _ => {}
                 }
                 self.set(placed.record, record);
@@ -192,7 +194,9 @@ impl Spoiler<'_> {
     }
 }
 
-fn records(pairs: &[(u32, u32)]) -> Vec<u8> {
-    let fields = pairs.iter().flat_map(|&(key, behind)| [key, behind]);
-    fields.flat_map(u32::to_le_bytes).collect()
+/// Keys, each with so many bytes of a row's or an item's number behind it.
+fn records(pairs: &[(u32, u32)], width: usize) -> Vec<u8> {
+    let record =
+        |&(key, behind): &(u32, u32)| [&key.to_le_bytes(), &behind.to_le_bytes()[..width]].concat();
+    pairs.iter().flat_map(record).collect()
 }
