@@ -1,4 +1,5 @@
-/* Rekwonuda: a reader of Outlook .pst files of the 64-bit ("Unicode") edition.
+/* Rekwonuda: a reader of Outlook .pst files of both editions, the 64-bit ("Unicode") and the older
+ * 32-bit ("ANSI") one.
  *
  * What may be given. Any bytes and any numbers. Nothing needs checking beforehand: no call crashes,
  * reads or writes outside what it was lent, or runs on without end, whatever the bytes say. The one
@@ -20,34 +21,48 @@
  * "Absent" is an ordinary answer and no refusal: `found` is 0 where it is absent, 1 where it is there.
  * All offsets are in bytes and begin at 0.
  *
+ * The version in the header tells the edition: 23 is the 64-bit edition, 14 and 15 are the 32-bit one.
+ * Each call on an image goes by it; rkw_header hands it out as `edition`. Answers have the same fields
+ * for both. What differs:
+ *                                                 64-bit       32-bit
+ *   most bytes of a block                          8,176        8,180
+ *   most blocks of a data tree                     1,021        2,043
+ *   most bytes of a node's data                8,347,696   16,711,740
+ *   checksums of the header, at                4 and 524            4
+ *   its sentinel and encoding method, at     512 and 513  460 and 461
+ *   its end-of-file number, at                       184          168
+ * Calls on a block that a heap stands on are not told the edition, and take up to 8,180 bytes. Of the row
+ * index of a table, in which the editions differ, there are two calls, rkw_find_row and rkw_find_row32.
+ *
  * Bit 0 (value 1) of a block number is reserved. Where block numbers are compared, in the block tree,
  * in a block's trailer and with the number asked for, they are compared with that bit cleared: two
  * entries of the block tree that differ only there are equal, which is refused with 11, and
  * rkw_find_block, rkw_test_block and rkw_read_block answer alike for two numbers that differ only
  * there; rkw_next_block takes the number that it is given with all its bits. The bit counts where a
- * number goes into a signature or a cyclic key, and in page numbers and node numbers.
+ * number goes into a signature or a cyclic key, and in page numbers and node numbers. The blocks of a
+ * 32-bit file have numbers under 2^32: a larger number that is asked for names none of them.
  *
- * The header says where the file ends: its end-of-file number, eight bytes at 184, which rkw_header
- * hands out as `end`. An image shorter than that is refused with 1, place 184, by the last test of the
- * header. Every page that is read, and the room of every block that is tested or read, must end at or
- * before both that number and the end of the image, else it is refused with 6 or 13. A number of 0 is
- * accepted by rkw_header; every page is then refused with 6.
+ * The header says where the file ends: its end-of-file number, eight bytes at 184, in a 32-bit file four
+ * at 168, which rkw_header hands out as `end`. An image shorter than that is refused with 1 and that
+ * place by the last test of the header. Every page that is read, and the room of every block that is
+ * tested or read, must end at or before both that number and the end of the image, else it is refused
+ * with 6 or 13. A number of 0 is accepted by rkw_header; every page is then refused with 6.
  *
  * An image may be longer than its header says. The bytes that hang on behind that number, and behind
  * the first 564, change no answer, no refusal and no byte of a buffer while the length of the image
  * stays within its bounds. Said exactly: two images begin with the same bytes, at least 564 of them and
- * at least as many as the number at 184 says, and both are at most 1,073,741,824 bytes long, or neither
- * is; then every call that takes an image gives the same for both. So one thing may differ: an image
- * that grows over 1,073,741,824 bytes is refused with 1, place 0.
+ * at least as many as the end-of-file number says, and both are at most 1,073,741,824 bytes long, or
+ * neither is; then every call that takes an image gives the same for both. So one thing may differ: an
+ * image that grows over 1,073,741,824 bytes is refused with 1, place 0.
  *
  * Refusals, each with its place:
  *    1  the image is under 564 or over 1,073,741,824 bytes long; 0. Or it is shorter than the header's
- *       end-of-file number says, which is tested after 5; 184
+ *       end-of-file number says, which is tested after 5; 184, in a 32-bit file 168
  *    2  the magic bytes are wrong; 0 or 8
- *    3  the version is not 23, that of the 64-bit edition; 10
- *    4  a checksum of the header differs; 4 or 524
- *    5  the header's sentinel or encoding method is wrong; 512 or 513. From rkw_encode and
- *       rkw_decode: the method is over 2; 0
+ *    3  the version is none of 14, 15 and 23; 10
+ *    4  a checksum of the header differs; 4 or 524, in a 32-bit file 4
+ *    5  the header's sentinel or encoding method is wrong; 512 or 513, in a 32-bit file 460 or 461.
+ *       From rkw_encode and rkw_decode: the method is over 2; 0
  *    6  the offset of a page is not allowed, or the page goes past the end of the file; that offset
  *    7  the kind of a page is wrong; the page's offset
  *    8  the number or signature of a page is wrong; the page's offset
@@ -95,10 +110,10 @@ struct rkw_answer {
 /* What the header says. method: how block data is encoded, 0 not at all, 1 permute, 2 cyclic.
  * nodes_number, nodes_offset: the number and the offset of the root page of the node tree;
  * blocks_number, blocks_offset: of the root page of the block tree. end: the end-of-file number, at
- * most the length of the image. */
+ * most the length of the image. edition: 64 or 32. */
 struct rkw_header_answer {
     uint64_t refusal, place, more;
-    uint64_t method, nodes_number, nodes_offset, blocks_number, blocks_offset, end;
+    uint64_t method, nodes_number, nodes_offset, blocks_number, blocks_offset, end, edition;
 };
 
 /* A node. found: 1 or 0. pages: how many pages were read, also where the node is absent.
@@ -237,13 +252,15 @@ struct rkw_size_answer rkw_test_block(const uint8_t *image, size_t len, uint64_t
 
 /* Tests a block and puts its bytes at the front of `out`: decoded by the header's method, or as they
  * are stored where the block is internal (bit 1, of value 2, of its number). What follows them in
- * `out` stays as it was. No block has more than 8,176 bytes. Refusals 1 to 15, 17 and 21. */
+ * `out` stays as it was. No block has more than 8,176 bytes, in a 32-bit file 8,180. Refusals 1 to 15,
+ * 17 and 21. */
 struct rkw_length_answer rkw_read_block(const uint8_t *image, size_t len, uint64_t block, uint8_t *out, size_t out_len);
 
 /* Looks up a node and puts its data at the front of `out`: the bytes of its data block, or, where that
  * is internal, of the blocks that it lists, one right behind the other, each tested and decoded. What
- * follows them in `out` stays as it was. The data of a node has at most 8,347,696 bytes; called with
- * out_len 0, the call says in `more` of refusal 17 how many there are. Refusals 1 to 17, and 21. */
+ * follows them in `out` stays as it was. The data of a node has at most 8,347,696 bytes, in a 32-bit
+ * file 16,711,740; called with out_len 0, the call says in `more` of refusal 17 how many there are.
+ * Refusals 1 to 17, and 21. */
 struct rkw_data_answer rkw_read_node(const uint8_t *image, size_t len, uint64_t node, uint8_t *out, size_t out_len);
 
 /* Encodes, or decodes, `bytes` in place as the data of that block: method 0 leaves them, 1 is permute,
@@ -251,7 +268,8 @@ struct rkw_data_answer rkw_read_node(const uint8_t *image, size_t len, uint64_t 
 struct rkw_answer rkw_encode(uint8_t method, uint64_t block, uint8_t *bytes, size_t len);
 struct rkw_answer rkw_decode(uint8_t method, uint64_t block, uint8_t *bytes, size_t len);
 
-/* The block: the bytes of one block with a heap on it, decoded, as rkw_read_block hands them out. */
+/* The block: the bytes of one block with a heap on it, decoded, as rkw_read_block hands them out: 12 to
+ * 8,180 of them, whatever the edition. */
 
 /* Tests the shape of the heap. Refusal 18. */
 struct rkw_answer rkw_test_heap(const uint8_t *block, size_t len);
@@ -288,7 +306,7 @@ struct rkw_column_answer rkw_column(const uint8_t *block, size_t len, uint32_t i
 
 /* Counts the rows: as many as whole rows fit into the rows' bytes. What is left over does not count.
  * Where the rows stand in a heap item (rows_kind 2), its number is tested (19). Where they stand in a
- * subnode (rows_kind 3), `rows` is the bytes of that subnode's block, at most 8,176 (23); in all other
+ * subnode (rows_kind 3), `rows` is the bytes of that subnode's block, at most 8,180 (23); in all other
  * cases `rows` is not looked at and may be empty. Whether these bytes are those of that subnode is not
  * known here. Refusals 18, 19 and 23. */
 struct rkw_count_answer rkw_count_rows(const uint8_t *block, size_t len, const uint8_t *rows, size_t rows_len);
@@ -299,12 +317,15 @@ struct rkw_count_answer rkw_count_rows(const uint8_t *block, size_t len, const u
  * index is not looked at. Refusals 18, 19 and 23. */
 struct rkw_cell_answer rkw_cell(const uint8_t *block, size_t len, const uint8_t *rows, size_t rows_len, uint32_t row, uint32_t tag);
 
-/* Looks up in the row index which row has that id. After the tests of every table call: the number of the
- * item that holds the index's record (19), and the record (23): exactly 8 bytes, B5 hex, key size 4,
- * entry size 4, at most 3 index levels, and the number of the root item. Absent where that is 0. Then,
- * item by item on the way, its number (19), and its shape (23): not empty, whole records, ids strictly
- * ascending and in range. The rows are not looked at. Refusals 18, 19 and 23. */
+/* Looks up in the row index which row has that id: rkw_find_row in a table of a 64-bit file, whose index
+ * has entries of 4 bytes, rkw_find_row32 in one of a 32-bit file, whose index has entries of 2. After the
+ * tests of every table call: the number of the item that holds the index's record (19), and the record
+ * (23): exactly 8 bytes, B5 hex, key size 4, entry size 4 or 2, at most 3 index levels, and the number of
+ * the root item. Absent where that is 0. Then, item by item on the way, its number (19), and its shape
+ * (23): not empty, whole records, ids strictly ascending and in range. The rows are not looked at. An
+ * index of the other edition is refused by its entry size (23). Refusals 18, 19 and 23. */
 struct rkw_row_answer rkw_find_row(const uint8_t *block, size_t len, uint32_t id);
+struct rkw_row_answer rkw_find_row32(const uint8_t *block, size_t len, uint32_t id);
 
 /* Puts all cells of a row, from 0, into `places`, in the order of the columns. A place is six words,
  * those of a struct rkw_cell_answer in its order, so that an area of such structs can be lent; an area of
@@ -324,8 +345,9 @@ uint64_t rkw_checksum(const uint8_t *bytes, size_t len);
 uint64_t rkw_signature(uint64_t offset, uint64_t number);
 
 /* The room that a block with so many bytes of data takes in a file: the smallest multiple of 64 that
- * holds size + 16. */
+ * holds size + 16, and in a 32-bit file, by rkw_room32, size + 12. */
 uint64_t rkw_room(uint32_t size);
+uint64_t rkw_room32(uint32_t size);
 
 #ifdef __cplusplus
 }

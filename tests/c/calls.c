@@ -1,7 +1,8 @@
 /* Calls every function of include/rekwonuda.h on a sample and prints what it got.
  * samples/mini.img has two real root-to-leaf paths and no block. A copy of it is given one: block 4,
  * whose 108 bytes are a small heap with two properties. A longer copy goes on behind the sample's end
- * with a page and a block that its trees name there. The table calls get a heap of their own. */
+ * with a page and a block that its trees name there. A 32-bit image is made whole. The table calls get
+ * a heap of their own. */
 #include "rekwonuda.h"
 
 #include <inttypes.h>
@@ -10,17 +11,25 @@
 
 enum { IMAGE = 27648, BLOCK = 4, OFFSET = 0x5800, SIZE = 108, ROOM = 128, ITEM = 0x60, LEAF = 0x5600 };
 enum { LISTED = 4, MOST = 4096, WORDS = 9, AREA = WORDS * (MOST + 1), VERSION = 10, METHOD = 513, END = 184 };
-enum { COLUMNS = 4, CELL = 6, ROW = 18, LARGEST = 8176 };
+enum { COLUMNS = 4, CELL = 6, ROW = 18, LARGEST = 8180 };
 enum { TIME = 0x0E060040, NAME = 0x3001001F, FLAG = 0x360A000B, ID = 0x67F20003 };
 
 /* Behind the sample's end: page 132, which the node tree's root names for nodes from 0x804F on, and right
  * behind it block 0x34, which the block tree lists with 140 bytes. */
 enum { NEXT_PAGE = 28160, NEXT_NUMBER = 132, NEXT_BLOCK = 28672, NEXT_SIZE = 140, NEXT_ROOM = 192, LONGER = 28864 };
 
+/* The 32-bit image: a leaf page for each tree, block 6, which lists block 4 twice, and block 4. */
+enum { OLD_NODES = 0x4400, OLD_BLOCKS = 0x4600, OLD_TREE = 0x4800, OLD_BLOCK = 0x4840, OLD_END = 0x4880 };
+enum { OLD_SIZE = 52, OLD_ROOM = 64, OLD_END_AT = 168, OLD_ROOTS = 184, OLD_SENTINEL = 460, OLD_METHOD = 461 };
+
+/* How many bytes a block number has in a file. */
+enum { WIDTH = 8, OLD_WIDTH = 4 };
+
 static uint8_t image[IMAGE + 1];
 static uint8_t filled[IMAGE];
 static uint8_t longer[LONGER];
 static uint8_t keyed[IMAGE];
+static uint8_t old[OLD_END + 1];
 static uint8_t out[SIZE + 4];
 
 /* Nodes to look up: one found, one absent, one refused, and the first again; and room for one number
@@ -35,6 +44,9 @@ static uint8_t heap[SIZE] = {
     0x38, 0x0E, 3, 0, 5, 0, 0, 0, 0x01, 0x30, 0x1F, 0, ITEM, 0, 0, 0,
 };
 static const uint8_t map[] = {3, 0, 0, 0, 12, 0, 20, 0, 36, 0, 96, 0};
+
+/* A heap without items, whose map stands right behind its head, and one byte more than a heap has. */
+static const uint8_t largest[LARGEST + 1] = {12, 0, 0xEC, 0xBC, 0, 0, 0, 0, 0, 0, 0, 0, 0, 0, 0, 0, 12, 0};
 
 /* A table: five items, at 12, 66, 74, 106 and 180, and their map at 188. */
 static uint8_t table[] = {
@@ -65,6 +77,7 @@ static uint8_t table[] = {
 
 /* Where some bytes of the table stand, for a test to change. */
 enum { CLIENT_KIND = 3, USER_ROOT = 4, INDEX_ITEM = 22, ROWS = 26, FIRST_BIT = 41, KEY_SIZE = 67, TABLE = 204 };
+enum { ENTRY_SIZE = 68, INDEX = 74, INDEX_END = 198 };
 _Static_assert(sizeof table == TABLE, "the map ends the table");
 
 /* Rows as the block of a subnode holds them: those of item 0x80, and behind them nothing. */
@@ -99,14 +112,27 @@ static void put(uint8_t *at, unsigned width, uint64_t value)
     for (unsigned i = 0; i < width; i++) at[i] = (uint8_t)(value >> (8 * i));
 }
 
-/* Writes the trailer of a block whose bytes stand in the image already. */
-static void seal_block(uint8_t *in, size_t offset, size_t size, size_t room, uint64_t number)
+/* Writes the trailer of a block whose bytes stand in the image already. In a 32-bit file its number comes
+ * before its checksum. */
+static void seal_block(uint8_t *in, size_t offset, size_t size, size_t room, uint64_t number, unsigned width)
 {
-    uint8_t *trailer = in + offset + room - 16;
+    uint8_t *trailer = in + offset + room - 8 - width;
     put(trailer, 2, size);
     put(trailer + 2, 2, rkw_signature(offset, number));
-    put(trailer + 4, 4, rkw_checksum(in + offset, size));
-    put(trailer + 8, 8, number);
+    put(trailer + (width == WIDTH ? 4 : 8), 4, rkw_checksum(in + offset, size));
+    put(trailer + (width == WIDTH ? 8 : 4), width, number);
+}
+
+/* Writes the trailer of a page whose bytes stand in the image already. */
+static void seal_page(uint8_t *in, size_t offset, uint8_t kind, uint64_t number, unsigned width)
+{
+    uint8_t *page = in + offset;
+    size_t trailer = width == WIDTH ? 496 : 500;
+    put(page + trailer, 1, kind);
+    put(page + trailer + 1, 1, kind);
+    put(page + trailer + 2, 2, rkw_signature(offset, number));
+    put(page + (width == WIDTH ? 500 : 508), 4, rkw_checksum(page, trailer));
+    put(page + 504, width, number);
 }
 
 static void make_block(void)
@@ -116,7 +142,7 @@ static void make_block(void)
     memcpy(heap + 96, map, sizeof map);
     memcpy(filled, image, IMAGE);
     memcpy(filled + OFFSET, heap, SIZE);
-    seal_block(filled, OFFSET, SIZE, ROOM, BLOCK);
+    seal_block(filled, OFFSET, SIZE, ROOM, BLOCK, WIDTH);
 }
 
 /* The page is a leaf with one entry, node 0x804F without data. */
@@ -130,11 +156,49 @@ static void make_longer(void)
     page[488] = 1;
     page[489] = 15;
     page[490] = 32;
-    put(page + 496, 2, 0x8181);
-    put(page + 498, 2, rkw_signature(NEXT_PAGE, NEXT_NUMBER));
-    put(page + 500, 4, rkw_checksum(page, 496));
-    put(page + 504, 8, NEXT_NUMBER);
-    seal_block(longer, NEXT_BLOCK, NEXT_SIZE, NEXT_ROOM, 0x34);
+    seal_page(longer, NEXT_PAGE, 0x81, NEXT_NUMBER, WIDTH);
+    seal_block(longer, NEXT_BLOCK, NEXT_SIZE, NEXT_ROOM, 0x34, WIDTH);
+}
+
+/* Puts 32-bit numbers one behind the other. */
+static void put_all(uint8_t *at, const uint32_t *numbers, size_t count)
+{
+    for (size_t i = 0; i < count; i++) put(at + 4 * i, 4, numbers[i]);
+}
+
+static void seal_old(void) { put(old + 4, 4, rkw_checksum(old + 8, 471)); }
+
+static void make_old_header(void)
+{
+    static const uint32_t roots[] = {10, OLD_NODES, 11, OLD_BLOCKS};
+    memcpy(old, "!BDN\0\0\0\0SM\016", 12);
+    put(old + OLD_END_AT, 4, OLD_END);
+    put_all(old + OLD_ROOTS, roots, 4);
+    old[OLD_SENTINEL] = 0x80;
+    old[OLD_METHOD] = 1;
+    seal_old();
+}
+
+/* Nodes 0x21 and 0x122, with data block, subnode block and parent; blocks 4 and 6, with offset, and size and
+ * references in one number. */
+static void make_old(void)
+{
+    static const uint32_t nodes[] = {0x21, 4, 0, 0, 0x122, 6, 0x16, 0x122};
+    static const uint32_t blocks[] = {4, OLD_BLOCK, 3 << 16 | OLD_SIZE, 6, OLD_TREE, 2 << 16 | 16};
+    static const uint32_t tree[] = {2 << 16 | 0x0101, 2 * OLD_SIZE, 4, 4};
+    static const uint8_t node_counts[] = {2, 31, 16, 0}, block_counts[] = {2, 41, 12, 0};
+    make_old_header();
+    put_all(old + OLD_NODES, nodes, 8);
+    memcpy(old + OLD_NODES + 496, node_counts, 4);
+    seal_page(old, OLD_NODES, 0x81, 10, OLD_WIDTH);
+    put_all(old + OLD_BLOCKS, blocks, 6);
+    memcpy(old + OLD_BLOCKS + 496, block_counts, 4);
+    seal_page(old, OLD_BLOCKS, 0x80, 11, OLD_WIDTH);
+    put_all(old + OLD_TREE, tree, 4);
+    seal_block(old, OLD_TREE, 16, OLD_ROOM, 6, OLD_WIDTH);
+    for (unsigned i = 0; i < OLD_SIZE; i++) old[OLD_BLOCK + i] = (uint8_t)i;
+    rkw_encode(1, 4, old + OLD_BLOCK, OLD_SIZE);
+    seal_block(old, OLD_BLOCK, OLD_SIZE, OLD_ROOM, 4, OLD_WIDTH);
 }
 
 static void call_header(const uint8_t *in, size_t length)
@@ -147,6 +211,7 @@ static void call_header(const uint8_t *in, size_t length)
     field("blocks_number", a.blocks_number);
     field("blocks_offset", a.blocks_offset);
     field("end", a.end);
+    field("edition", a.edition);
     printf("\n");
 }
 
@@ -200,19 +265,19 @@ static void call_test_block(const uint8_t *in, size_t length, uint64_t number)
     printf("\n");
 }
 
-static void call_read_block(size_t room)
+static void call_read_block(const uint8_t *in, size_t length, size_t room)
 {
     memset(out, 0xAA, sizeof out);
-    struct rkw_length_answer a = rkw_read_block(filled, IMAGE, BLOCK, out, room);
+    struct rkw_length_answer a = rkw_read_block(in, length, BLOCK, out, room);
     refusal("rkw_read_block", a.refusal, a.place, a.more);
     field("length", a.length);
     bytes("out", out, sizeof out);
 }
 
-static void call_read_node(uint64_t node, size_t room)
+static void call_read_node(const uint8_t *in, size_t length, uint64_t node, size_t room)
 {
     memset(out, 0xAA, sizeof out);
-    struct rkw_data_answer a = rkw_read_node(filled, IMAGE, node, out, room);
+    struct rkw_data_answer a = rkw_read_node(in, length, node, out, room);
     refusal("rkw_read_node", a.refusal, a.place, a.more);
     field("found", a.found);
     field("length", a.length);
@@ -297,10 +362,9 @@ static void call_cell(size_t rows_length, uint32_t row, uint32_t tag)
     cell("rkw_cell", rkw_cell(table, TABLE, rows, rows_length, row, tag));
 }
 
-static void call_find_row(uint32_t id)
+static void row(const char *call, struct rkw_row_answer a)
 {
-    struct rkw_row_answer a = rkw_find_row(table, TABLE, id);
-    refusal("rkw_find_row", a.refusal, a.place, a.more);
+    refusal(call, a.refusal, a.place, a.more);
     field("found", a.found);
     field("row", a.row);
     printf("\n");
@@ -335,7 +399,7 @@ static void call_changed(size_t place, uint8_t byte)
     call_column(0);
     call_count_rows(0);
     call_cell(0, 0, ID);
-    call_find_row(0x8082);
+    row("rkw_find_row", rkw_find_row(table, TABLE, 0x8082));
     call_read_row(0, 0, CELL * COLUMNS);
     table[place] = before;
 }
@@ -454,7 +518,7 @@ static void call_lists(void)
     call_find_nodes(image, MOST + 1, 0);
     call_find_nodes(image, 0, AREA);
     memcpy(keyed, image, IMAGE);
-    keyed[VERSION] = 14;
+    keyed[VERSION] = 16;
     call_find_nodes(keyed, LISTED, WORDS * LISTED);
 }
 
@@ -473,15 +537,64 @@ static void call_blocks(void)
     call_test_block(image, IMAGE, BLOCK);
     call_test_block(filled, IMAGE, BLOCK);
     call_test_block(filled, IMAGE, BLOCK + 1);
-    call_read_block(sizeof out);
-    call_read_block(SIZE - 1);
-    call_read_node(0x60D, sizeof out);
-    call_read_node(0x60D, 0);
-    call_read_node(0x1E1, 0);
-    call_read_node(0x20, 0);
-    call_read_node(0x60E, sizeof out);
+    call_read_block(filled, IMAGE, sizeof out);
+    call_read_block(filled, IMAGE, SIZE - 1);
+    call_read_node(filled, IMAGE, 0x60D, sizeof out);
+    call_read_node(filled, IMAGE, 0x60D, 0);
+    call_read_node(filled, IMAGE, 0x1E1, 0);
+    call_read_node(filled, IMAGE, 0x20, 0);
+    call_read_node(filled, IMAGE, 0x60E, sizeof out);
     call_coding(2);
     call_coding(3);
+}
+
+static void call_old_trees(void)
+{
+    call_header(old, OLD_END);
+    verdict("rkw_check_nodes", rkw_check_nodes(old, OLD_END));
+    verdict("rkw_check_blocks", rkw_check_blocks(old, OLD_END));
+    node("rkw_find_node", rkw_find_node(old, OLD_END, 0x122 | UINT64_C(1) << 32));
+    node("rkw_find_node", rkw_find_node(old, OLD_END, 0x20));
+    node("rkw_next_node", rkw_next_node(old, OLD_END, 0x22));
+    block("rkw_find_block", rkw_find_block(old, OLD_END, 5));
+    block("rkw_find_block", rkw_find_block(old, OLD_END, 4 | UINT64_C(1) << 32));
+    block("rkw_next_block", rkw_next_block(old, OLD_END, 5));
+    block("rkw_next_block", rkw_next_block(old, OLD_END, UINT64_C(1) << 32));
+    call_test_block(old, OLD_END, 4);
+    call_test_block(old, OLD_END, 4 | UINT64_C(1) << 32);
+    call_read_block(old, OLD_END, sizeof out);
+    call_read_node(old, OLD_END, 0x122, sizeof out);
+    call_read_node(old, OLD_END, 0x122, 2 * OLD_SIZE - 1);
+}
+
+/* Calls with another byte at that place of the 32-bit image's header, which is sealed again. */
+static void call_old_byte(size_t place, uint8_t byte)
+{
+    uint8_t before = old[place];
+    old[place] = byte;
+    seal_old();
+    call_header(old, OLD_END);
+    call_test_block(old, OLD_END, 4);
+    old[place] = before;
+    seal_old();
+}
+
+/* Versions 15, 16 and 23; then the bytes of the header that stand elsewhere than in a 64-bit file. The low
+ * byte of the end-of-file number is 0x80. */
+static void call_old(void)
+{
+    call_old_trees();
+    call_old_byte(VERSION, 15);
+    call_old_byte(VERSION, 16);
+    call_old_byte(VERSION, 23);
+    call_old_byte(OLD_SENTINEL, 0);
+    call_old_byte(OLD_METHOD, 3);
+    call_old_byte(OLD_END_AT, 0x81);
+    call_old_byte(OLD_END_AT, 0x7F);
+    old[OLD_ROOTS] = 12;
+    call_header(old, OLD_END);
+    seal_old();
+    node("rkw_find_node", rkw_find_node(old, OLD_END, 0x122));
 }
 
 /* The page ends at 28672, the block at 28864; both lie in the longer image, and in the file where its
@@ -512,6 +625,8 @@ static void call_heap(void)
 {
     verdict("rkw_test_heap", rkw_test_heap(heap, SIZE));
     verdict("rkw_test_heap", rkw_test_heap(heap, 0));
+    verdict("rkw_test_heap", rkw_test_heap(largest, LARGEST));
+    verdict("rkw_test_heap", rkw_test_heap(largest, sizeof largest));
     verdict("rkw_test_item", rkw_test_item(heap, SIZE, ITEM));
     verdict("rkw_test_item", rkw_test_item(heap, SIZE, 0));
     call_item(ITEM);
@@ -534,8 +649,9 @@ static void call_tables(void)
     call_cell(0, 1, TIME);
     call_cell(0, 0, FLAG);
     call_cell(0, 0, ID + 1);
-    call_find_row(0x8062);
-    call_find_row(0x8063);
+    row("rkw_find_row", rkw_find_row(table, TABLE, 0x8062));
+    row("rkw_find_row", rkw_find_row(table, TABLE, 0x8063));
+    row("rkw_find_row32", rkw_find_row32(table, TABLE, 0x8062));
     call_read_row(0, 1, sizeof cells / sizeof cells[0]);
     call_read_row(0, 3, CELL * COLUMNS);
     call_read_row(0, 0, CELL * COLUMNS - 1);
@@ -552,6 +668,23 @@ static void call_wrong_tables(void)
     call_changed(INDEX_ITEM, 0);
     call_changed(KEY_SIZE, 2);
     call_changed(ROWS, 0xC0);
+}
+
+/* The table with the row index of a 32-bit file in item 0x60: an id and two bytes for the number of its row,
+ * three times. */
+static void call_old_table(void)
+{
+    static const uint8_t index[] = {
+        0x62, 0x80, 0, 0, 2, 0, 0x82, 0x80, 0, 0, 0xFF, 0xFF, 0xA2, 0x80, 0, 0, 1, 0,
+    };
+    table[ENTRY_SIZE] = 2;
+    memcpy(table + INDEX, index, sizeof index);
+    table[INDEX_END] = INDEX + sizeof index;
+    row("rkw_find_row32", rkw_find_row32(table, TABLE, 0x8062));
+    row("rkw_find_row32", rkw_find_row32(table, TABLE, 0x8082));
+    row("rkw_find_row32", rkw_find_row32(table, TABLE, 0x8063));
+    row("rkw_find_row32", rkw_find_row32(table, TABLE - 1, 0x8062));
+    row("rkw_find_row", rkw_find_row(table, TABLE, 0x8062));
 }
 
 /* The table without rows, and with its rows in a subnode, of which two and a half are given. */
@@ -584,17 +717,22 @@ int main(int count, char **words)
     }
     make_block();
     make_longer();
+    make_old();
     call_trees();
     call_lists();
     call_keys();
     call_blocks();
     call_ends();
+    call_old();
     call_heap();
     call_tables();
     call_wrong_tables();
     call_rows();
+    call_old_table();
     printf("rkw_checksum: %" PRIu64 "\n", rkw_checksum((const uint8_t *)"\x80", 1));
     printf("rkw_signature: %" PRIu64 "\n", rkw_signature(0x908A00, 0x1518));
     printf("rkw_room: %" PRIu64 "\n", rkw_room(4092));
+    printf("rkw_room32: %" PRIu64 " %" PRIu64 "\n", rkw_room32(OLD_SIZE), rkw_room32(OLD_SIZE + 1));
+    printf("rkw_room32: %" PRIu64 "\n", rkw_room32(LARGEST));
     return 0;
 }

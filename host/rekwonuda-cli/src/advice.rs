@@ -4,7 +4,7 @@ use crate::account::Spot;
 use crate::outcome::Outcome;
 use crate::place::may_begin_at;
 use crate::source::Source;
-use rekwonuda::{Fault, Refusal, LONGEST_IMAGE};
+use rekwonuda::{Edition, Fault, Refusal, LONGEST_IMAGE};
 
 /// How many bytes the header's first checksum covers, from byte 8 on. It is the same in all editions.
 pub const FIRST_SUMMED: usize = 471;
@@ -37,9 +37,9 @@ const OTHER_STORE: &str =
     "This is another kind of Outlook file, such as an offline store (.ost) or \
     an address book, or its beginning was overwritten. Have its owner export it as a .pst file.";
 const OTHER_EDITION: &str =
-    "This reader covers the 64-bit Unicode edition, and says nothing about whether this file is \
-    sound. Have its owner import it into a new data file with a current Outlook, which writes that \
-    edition.";
+    "This reader covers the 64-bit Unicode edition and the older 32-bit ANSI edition, and says nothing \
+    about whether this file is sound. Have its owner import it into a new data file with a current \
+    Outlook, which writes the 64-bit one.";
 const EDITION_OR_DAMAGE: &str =
     "This may be damage: the header's first checksum does not fit either, so that its bytes are not \
     those that were written, and the version may be one of them. Ask for a fresh copy. If it says \
@@ -67,6 +67,9 @@ const STALE_PAGE: &str = "By its checksum this is a whole, sound page, but it do
 const TWO_LEVELS: &str =
     "The data of this node is stored in two levels, as it must be where it has \
     more than 8,347,696 bytes; this reader covers one level. That is no fault of the file.";
+const TWO_LEVELS_32: &str =
+    "The data of this node is stored in two levels, as it must be in a 32-bit file where it has \
+    more than 16,711,740 bytes; this reader covers one level. That is no fault of the file.";
 const BAD_PROPERTIES: &str = "The node's data is what was written: its blocks are sound. But what \
     was written is no sound list of properties. The command `node` writes it out as it is.";
 const BAD_TABLE: &str = "The node's data is what was written: its blocks are sound. But what was \
@@ -76,7 +79,7 @@ const BAD_TABLE: &str = "The node's data is what was written: its blocks are sou
 pub fn outcome(source: &Source, refusal: &Refusal, spot: &Spot) -> Outcome {
     let covered = match refusal.fault {
         Fault::ImageLength => !source.is_too_long(),
-        Fault::Version => edition(version(source)).is_none() && !first_checksum_fits(source),
+        Fault::Version => other_edition(source).is_none() && !first_checksum_fits(source),
         Fault::DataTree => !has_two_levels(source, spot),
         _ => true,
     };
@@ -111,8 +114,11 @@ pub fn advice(source: &Source, refusal: &Refusal, spot: &Spot) -> &'static str {
         (Fault::Magic, _) if refusal.place == 0 => NO_PST,
         (Fault::Magic, _) => OTHER_STORE,
         (Fault::Version, _) if first_checksum_fits(source) => OTHER_EDITION,
-        (Fault::Version, _) if edition(version(source)).is_some() => EDITION_OR_DAMAGE,
-        (Fault::DataTree, _) if has_two_levels(source, spot) => TWO_LEVELS,
+        (Fault::Version, _) if other_edition(source).is_some() => EDITION_OR_DAMAGE,
+        (Fault::DataTree, _) if has_two_levels(source, spot) => match source.edition() {
+            Edition::Bits32 => TWO_LEVELS_32,
+            Edition::Bits64 => TWO_LEVELS,
+        },
         (Fault::TableShape, _) | (Fault::HeapShape | Fault::HeapItem, Spot::Table(..)) => BAD_TABLE,
         (Fault::HeapShape | Fault::HeapItem | Fault::PropertyTree, _) => BAD_PROPERTIES,
         (Fault::KeyOrder, _) => SHUFFLED_PAGE,
@@ -136,7 +142,7 @@ fn has_two_levels(source: &Source, spot: &Spot) -> bool {
     root.is_some_and(|root| match root.as_slice() {
         [1, 2, low, high, ..] => {
             let count = usize::from(u16::from_le_bytes([*low, *high]));
-            root.len() == 8 + 8 * count
+            root.len() == 8 + source.edition().width() * count
         }
         _ => false,
     })
@@ -147,23 +153,19 @@ fn first_checksum_fits(source: &Source) -> bool {
     source.bytes_at(4, 4) == sum.to_le_bytes()
 }
 
-pub fn version(source: &Source) -> u16 {
-    match source.bytes_at(10, 2) {
-        [low, high] => u16::from_le_bytes([*low, *high]),
-        _ => 0,
-    }
-}
-
 /// Where the header says that the file ends, whether it is accepted or not.
 pub fn stated_end(source: &Source) -> u64 {
-    let bytes = source.bytes_at(184, 8).iter().rev();
-    bytes.fold(0, |number, byte| number << 8 | u64::from(*byte))
+    let edition = source.edition();
+    let place = match edition {
+        Edition::Bits32 => 168,
+        Edition::Bits64 => 184,
+    };
+    source.number_at(place, edition.width())
 }
 
-/// The edition that a version other than 23 stands for.
-pub fn edition(version: u16) -> Option<&'static str> {
-    match version {
-        14 | 15 => Some("the 32-bit (ANSI) edition"),
+/// The edition that is not covered and that the version stands for.
+pub fn other_edition(source: &Source) -> Option<&'static str> {
+    match source.version() {
         36 => Some("the edition with pages of 4,096 bytes"),
         _ => None,
     }

@@ -1,3 +1,4 @@
+use crate::code_pages::CodePage;
 use crate::names::{is_standard, STANDARD};
 use clap::error::ErrorKind;
 use clap::{Args, CommandFactory, Parser, Subcommand};
@@ -56,7 +57,7 @@ pub enum Command {
     /// end that the header states is remarked, and no fault. Of several files, or of a folder, it gives
     /// one line each and a summary.
     Check(CheckArguments),
-    /// Say what the file is: its size and end, encoding method, trees and their counts
+    /// Say what the file is: its size, edition and end, encoding method, trees and their counts
     Info(FileArgument),
     /// List all nodes: number, type, parent, data block and subnode block
     Nodes(FileArgument),
@@ -85,7 +86,7 @@ pub enum Command {
     /// It begins with the root folder, node 0x122, and follows the hierarchy tables. Messages are counted
     /// in the contents tables; unread ones are as stated where the folder is listed. What cannot be read
     /// is marked with ! and named, and the rest is shown.
-    Folders(FileArgument),
+    Folders(FoldersArguments),
 }
 
 #[derive(Args)]
@@ -165,6 +166,8 @@ pub struct PropsArguments {
     /// The number of the node, as 33 or 0x21
     #[arg(value_name = "NID", value_parser = node_number)]
     pub node: u32,
+    #[command(flatten)]
+    pub text: TextArguments,
 }
 
 #[derive(Args)]
@@ -182,6 +185,29 @@ pub struct TableArguments {
     /// escaped where standard output is one.
     #[arg(long)]
     pub csv: bool,
+    #[command(flatten)]
+    pub text: TextArguments,
+}
+
+#[derive(Args)]
+#[command(after_long_help = STATUS)]
+pub struct FoldersArguments {
+    /// The .pst file, or - for standard input
+    pub file: PathBuf,
+    #[command(flatten)]
+    pub text: TextArguments,
+}
+
+#[derive(Args)]
+pub struct TextArguments {
+    /// The code page of 8-bit text: 1250 to 1254, or 1257
+    ///
+    /// Most text of 32-bit files is 8-bit text, whose bytes from 0x80 on stand for other characters in each
+    /// code page. Which one a file is in is not looked for: without this option they are shown as \xNN.
+    /// 1250 is for Central Europe, 1251 Cyrillic, 1252 Western Europe, 1253 Greek, 1254 Turkish, 1257
+    /// Baltic.
+    #[arg(long, value_name = "NUMBER", value_parser = code_page)]
+    pub code_page: Option<CodePage>,
 }
 
 impl Arguments {
@@ -247,6 +273,13 @@ pub fn node_number(text: &str) -> Result<u32, String> {
         .ok_or_else(|| "a node number is decimal or 0x with hexadecimal, under 2^32".to_string())
 }
 
+fn code_page(text: &str) -> Result<CodePage, String> {
+    let number = number(text, 10).and_then(|number| u16::try_from(number).ok());
+    number
+        .and_then(CodePage::of_number)
+        .ok_or_else(|| "the code pages known here are 1250 to 1254, and 1257".to_string())
+}
+
 fn jobs(text: &str) -> Result<NonZeroUsize, String> {
     number(text, 10)
         .and_then(|jobs| NonZeroUsize::new(jobs as usize))
@@ -301,6 +334,17 @@ mod tests {
             &["x", "y"],
         ] {
             assert!(agree(wrong).is_err(), "{wrong:?}");
+        }
+    }
+
+    #[test]
+    fn code_pages_are_those_that_are_known() {
+        for right in ["1250", "1251", "1252", "1253", "1254", "1257"] {
+            let page = code_page(right).map(|page| page.number.to_string());
+            assert_eq!(page.as_deref(), Ok(right));
+        }
+        for wrong in ["", "0", "437", "1255", "+1252", "0x4e4", "66788", "latin"] {
+            assert!(code_page(wrong).is_err(), "{wrong}");
         }
     }
 

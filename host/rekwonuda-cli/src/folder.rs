@@ -1,10 +1,10 @@
 //! A folder as `folders` shows it.
 
 use crate::contexts::named;
-use crate::names::on_one_line;
 use crate::outcome::Failure;
 use crate::troubles::Trouble;
-use crate::words::{counted, cut, node_type};
+use crate::values::Text;
+use crate::words::{counted, cut, hex, node_type};
 use rekwonuda::NodeId;
 use serde_json::{json, Value};
 
@@ -49,7 +49,7 @@ pub struct Folder {
 /// What is stated of a folder where it is listed.
 #[derive(Default)]
 pub struct Stated {
-    pub name: Option<String>,
+    pub name: Option<Text>,
     pub messages: Option<u32>,
     pub unread: Option<u32>,
 }
@@ -107,8 +107,11 @@ impl Folder {
             "parent": self.parent.map(|parent| parent.0),
             "depth": self.depth,
             "type": node_type(self.id),
-            "name": self.stated.name,
+            "name": self.stated.name.as_ref().map(|name| &name.plain),
         });
+        if let Some(bytes) = self.unknown_name() {
+            facts["name_hex"] = hex(bytes).into();
+        }
         let numbers = [
             ("messages", self.messages),
             ("stated_messages", self.stated.messages),
@@ -126,6 +129,11 @@ impl Folder {
         let troubles = self.troubles.iter().map(Trouble::facts);
         facts["troubles"] = troubles.collect::<Vec<Value>>().into();
         facts
+    }
+
+    /// All bytes of its name, where it is not known what some of them stand for.
+    pub fn unknown_name(&self) -> Option<&[u8]> {
+        self.stated.name.as_ref()?.unknown.as_deref()
     }
 
     /// The line of the folder, and one for each thing to know about it.
@@ -146,10 +154,11 @@ impl Folder {
     }
 
     fn shown_name(&self) -> String {
-        let name = match self.stated.name.as_deref() {
+        let name = self.stated.name.as_ref().map(|name| name.shown.as_str());
+        let name = match name {
             None if self.troubles.iter().any(Trouble::is_of_name) => "(name not read)".to_string(),
             None | Some("") => "(no name)".to_string(),
-            Some(name) => cut(&on_one_line(name), WIDEST),
+            Some(name) => cut(name, WIDEST),
         };
         let level = match self.depth > DEEPEST {
             true => format!("(level {}) ", self.depth),

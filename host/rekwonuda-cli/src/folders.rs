@@ -1,4 +1,6 @@
 use crate::account::Spot;
+use crate::args::FoldersArguments;
+use crate::code_pages::{self, CodePage};
 use crate::contexts::{named, Context};
 use crate::folder::{Folder, Stated, HEAD};
 use crate::list;
@@ -9,7 +11,7 @@ use crate::output::Output;
 use crate::source::Source;
 use crate::table::row_count;
 use crate::troubles::Troubles;
-use crate::values::text_of;
+use crate::values::{text_of, Text};
 use crate::words::counted;
 use indicatif::HumanCount;
 use rekwonuda::{BlockId, Heap, NodeId, Refusal, Table, Value};
@@ -24,12 +26,20 @@ const MESSAGES: u16 = 0x3602;
 const UNREAD: u16 = 0x3603;
 
 /// Shows all folders that the hierarchy tables lead to, and how many messages each has.
-pub fn folders(source: &Source, out: &mut Output<'_>) -> Result<Outcome, Failure> {
-    let mut walk = Walk::begin(source)?;
+pub fn folders(
+    source: &Source,
+    arguments: &FoldersArguments,
+    out: &mut Output<'_>,
+) -> Result<Outcome, Failure> {
+    let page = arguments.text.code_page;
+    let mut walk = Walk::begin(source, page)?;
+    code_pages::tell(page, out)?;
     out.begin_list("folders")?;
     let mut table = list::Table::new(HEAD.to_string());
+    let mut is_unknown = false;
     while let Some(ahead) = walk.ahead.pop() {
         let folder = walk.visit(&ahead)?;
+        is_unknown |= folder.unknown_name().is_some();
         out.entry(&folder.facts())?;
         for line in folder.lines() {
             table.row(&line, out)?;
@@ -38,11 +48,15 @@ pub fn folders(source: &Source, out: &mut Output<'_>) -> Result<Outcome, Failure
     table.end(out)?;
     out.row("")?;
     out.line(walk.summary())?;
+    if is_unknown {
+        code_pages::note_unknown(source, out);
+    }
     walk.troubles.tell(out)
 }
 
 struct Walk<'a> {
     source: &'a Source,
+    page: Option<CodePage>,
     /// Folders yet to be shown, the next one last: a file may nest them to any depth.
     ahead: Vec<Ahead>,
     /// All folders that have been shown or stand ahead. None of them is followed again, so that the walk
@@ -69,7 +83,7 @@ struct Ahead {
 }
 
 impl<'a> Walk<'a> {
-    fn begin(source: &'a Source) -> Result<Walk<'a>, Failure> {
+    fn begin(source: &'a Source, page: Option<CodePage>) -> Result<Walk<'a>, Failure> {
         let found = source.image().find_node(ROOT).at(Spot::NodeTree)?;
         found.entry.ok_or_else(|| absent(ROOT))?;
         let root = Ahead {
@@ -80,6 +94,7 @@ impl<'a> Walk<'a> {
         };
         Ok(Walk {
             source,
+            page,
             ahead: vec![root],
             listed: HashSet::from([ROOT]),
             tables: HashMap::new(),
@@ -94,7 +109,7 @@ impl<'a> Walk<'a> {
     fn visit(&mut self, ahead: &Ahead) -> Result<Folder, Failure> {
         self.folders += 1;
         let mut folder = Folder::new(ahead.id, ahead.parent, ahead.depth);
-        let (stated, named) = stated(self.source, ahead);
+        let (stated, named) = stated(self.source, ahead, self.page);
         folder.stated = stated;
         let told_by = ahead.listed.as_ref().map(|(listing, _)| listing.node.id);
         self.note(&mut folder, "name", told_by.unwrap_or(ROOT), named)?;
@@ -200,10 +215,10 @@ impl<'a> Walk<'a> {
 }
 
 /// What is stated of a folder where it is listed, and whether all of that can be read.
-fn stated(source: &Source, ahead: &Ahead) -> (Stated, Result<(), Failure>) {
+fn stated(source: &Source, ahead: &Ahead, page: Option<CodePage>) -> (Stated, Result<(), Failure>) {
     match &ahead.listed {
-        Some((listing, row)) => listing.stated(*row),
-        None => match stated_of_root(source) {
+        Some((listing, row)) => listing.stated(*row, page),
+        None => match stated_of_root(source, page) {
             Ok(stated) => (stated, Ok(())),
             Err(failure) => (Stated::default(), Err(failure)),
         },
@@ -211,7 +226,7 @@ fn stated(source: &Source, ahead: &Ahead) -> (Stated, Result<(), Failure>) {
 }
 
 /// No hierarchy table lists the root folder: its properties tell its name.
-fn stated_of_root(source: &Source) -> Result<Stated, Failure> {
+fn stated_of_root(source: &Source, page: Option<CodePage>) -> Result<Stated, Failure> {
     let (node, data) = Context::Properties.read_short(source, ROOT.0)?;
     let heap = Heap::new(&data);
     let spot = || Context::Properties.spot(node, &data);
@@ -220,19 +235,19 @@ fn stated_of_root(source: &Source) -> Result<Stated, Failure> {
         _ => Ok::<_, Failure>(None),
     };
     Ok(Stated {
-        name: root_name(heap).at(spot())?,
+        name: root_name(heap, page).at(spot())?,
         messages: number(MESSAGES)?,
         unread: number(UNREAD)?,
     })
 }
 
-fn root_name(heap: Heap<'_>) -> Result<Option<String>, Refusal> {
+fn root_name(heap: Heap<'_>, page: Option<CodePage>) -> Result<Option<Text>, Refusal> {
     let Some(found) = heap.find_property(NAME)? else {
         return Ok(None);
     };
     match found.value {
-        Value::Item(item) => Ok(text_of(found.type_code, heap.item(item)?)),
-        Value::Empty => Ok(Some(String::new())),
+        Value::Item(item) => Ok(text_of(found.type_code, heap.item(item)?, page)),
+        Value::Empty => Ok(Some(Text::default())),
         _ => Ok(None),
     }
 }

@@ -5,7 +5,7 @@ use crate::output::Output;
 use crate::progress;
 use crate::source::{shown_name, Source};
 use crate::tree::{Met, Tree};
-use crate::words::{counted, place};
+use crate::words::{counted, edition_name, place};
 use rekwonuda::{PageReference, Refusal};
 use serde_json::{json, Value};
 
@@ -21,11 +21,13 @@ pub fn info(source: &Source, out: &mut Output<'_>) -> Result<Outcome, Failure> {
     let header = source.image().header().at(Spot::Header)?;
     let ending = Ending::of(source).at(Spot::Header)?;
     let method = header.method.to_string();
+    out.fact("edition", header.edition.bits())?;
     out.fact("end", ending.end.to_string())?;
     out.fact("hanging", ending.hanging())?;
     out.fact("method", method.as_str())?;
     out.fact("node_root", reference(&header.nodes))?;
     out.fact("block_root", reference(&header.blocks))?;
+    out.row(format!("edition      {}", edition_name(header.edition)))?;
     out.row(format!("end          {}", ending.text()))?;
     out.row(format!("method       {method}"))?;
     out.row(format!("node tree    {}", root(&header.nodes)))?;

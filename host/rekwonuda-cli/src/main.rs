@@ -5,6 +5,7 @@ mod account;
 mod advice;
 mod args;
 mod check;
+mod code_pages;
 mod contexts;
 mod ending;
 mod find;
@@ -65,14 +66,12 @@ fn answer(arguments: &Arguments) -> Outcome {
     let path = match command {
         Command::Check(check) if many::is_many(check) => return many::check_many(check, form),
         Command::Check(check) => &check.paths[0],
-        Command::Info(file)
-        | Command::Nodes(file)
-        | Command::Blocks(file)
-        | Command::Folders(file) => &file.file,
+        Command::Info(file) | Command::Nodes(file) | Command::Blocks(file) => &file.file,
         Command::Find(find) => &find.file,
         Command::Node(node) => &node.file,
         Command::Props(props) => &props.file,
         Command::Table(table) => &table.file,
+        Command::Folders(folders) => &folders.file,
     };
     let begun = Output::standard(form, Some(command.name())).and_then(|mut out| {
         out.name("file", path)?;
@@ -109,7 +108,7 @@ fn run(command: &Command, source: &Source, out: &mut Output<'_>) -> Result<Outco
         Command::Node(arguments) => node::node(source, arguments, out),
         Command::Props(arguments) => props::props(source, arguments, out),
         Command::Table(arguments) => table::table(source, arguments, out),
-        Command::Folders(_) => folders::folders(source, out),
+        Command::Folders(arguments) => folders::folders(source, arguments, out),
     }
 }
 

@@ -57,7 +57,7 @@ fn push(text: &mut String, character: char) {
 
 /// Whether a character moves the cursor, changes the direction of the text, or is the sign that
 /// marks an escaped one.
-fn steers(character: char) -> bool {
+pub fn steers(character: char) -> bool {
     character.is_control()
         || matches!(character, '\\' | '\u{061C}' | '\u{200E}' | '\u{200F}')
         || matches!(character, '\u{2028}'..='\u{202E}' | '\u{2066}'..='\u{2069}')

@@ -1,14 +1,14 @@
 //! What lies at the place of a refusal, for someone who has no description of the format at hand.
 
 use crate::account::Spot;
-use crate::advice::{edition, stated_end, version, FIRST_SUMMED};
+use crate::advice::{other_edition, stated_end, FIRST_SUMMED};
 use crate::keys;
 use crate::list::kind;
 use crate::source::Source;
 use crate::users::{missing, refused};
 use crate::words::{counted, node_type, place, spaced_hex};
 use indicatif::HumanCount;
-use rekwonuda::{Block, Fault, Node, Refusal, WrongKey, LARGEST_BLOCK};
+use rekwonuda::{Block, Fault, Node, Refusal, WrongKey};
 
 const FIRST_ROOM: u64 = 0x4400;
 const STEP: u64 = 64;
@@ -49,13 +49,13 @@ fn in_header(source: &Source, refusal: &Refusal) -> String {
             shown(2)
         ),
         (3, _) => {
-            let number = version(source);
-            let edition = edition(number).unwrap_or("which no edition known here has");
+            let number = source.version();
+            let edition = other_edition(source).unwrap_or("which no edition known here has");
             format!("{at}: the header, its version: {number}, {edition}")
         }
         (4, 4) => format!("{at}: {}", checksum(source, FIRST_SUMMED, &shown(4))),
         (4, _) => format!("{at}: {}", checksum(source, SECOND_SUMMED, &shown(4))),
-        (_, 512) => format!(
+        (_, 512 | 460) => format!(
             "{at}: the header, a byte that should be 80, and is {}",
             shown(1)
         ),
@@ -182,13 +182,12 @@ fn listed_block(source: &Source, refusal: &Refusal, block: &Block) -> String {
 
 /// Why no block can be where this one is listed, or be so long.
 fn listed_wrongly(source: &Source, block: &Block) -> String {
-    let why = if (1..=LARGEST_BLOCK).contains(&block.size.into()) {
-        why_not_there(source, block.offset, rekwonuda::room(block.size.into()))
+    let edition = source.edition();
+    let most = edition.largest_block();
+    let why = if (1..=most).contains(&block.size.into()) {
+        why_not_there(source, block.offset, edition.room(block.size.into()))
     } else {
-        format!(
-            "a block has 1 to {} bytes",
-            HumanCount(LARGEST_BLOCK as u64)
-        )
+        format!("a block has 1 to {} bytes", HumanCount(most as u64))
     };
     format!("is listed there, but {why}")
 }

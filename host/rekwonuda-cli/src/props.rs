@@ -1,10 +1,11 @@
 use crate::args::PropsArguments;
+use crate::code_pages::{self, CodePage};
 use crate::contexts::Context;
 use crate::list::Table;
 use crate::outcome::{At, Failure, Outcome};
 use crate::output::Output;
 use crate::source::Source;
-use crate::values::{text_of, BOOLEAN};
+use crate::values::{escaped, text_of, utf_16, BOOLEAN, TEXT, TEXT_8};
 use crate::words::{counted, hex, property_type};
 use rekwonuda::{Heap, Property, Refusal, Value};
 use serde_json::json;
@@ -18,36 +19,49 @@ pub fn props(
     out: &mut Output<'_>,
 ) -> Result<Outcome, Failure> {
     out.fact("node", arguments.node)?;
+    let page = arguments.text.code_page;
     let (node, data) = Context::Properties.read(source, arguments.node)?;
     let heap = Heap::new(&data);
     let spot = || Context::Properties.spot(node, &data);
     heap.test().at(spot())?;
+    code_pages::tell(page, out)?;
     out.begin_list("properties")?;
     let mut table = Table::new(format!("{:<7} {:<22} value", "id", "type"));
+    let mut has_unknown = false;
     for found in heap.properties() {
         let found = found.at(spot())?;
-        let (facts, text) = property(heap, &found).at(spot())?;
+        let (facts, text) = property(heap, &found, page).at(spot())?;
+        has_unknown |= is_unknown(heap, &found, page);
         out.entry(&facts)?;
         let kind = property_type(found.type_code);
         table.row(&format!("{:#06x}  {kind:<22} {text}", found.id), out)?;
     }
-    table.end(out)
+    let outcome = table.end(out)?;
+    if has_unknown {
+        code_pages::note_unknown(source, out);
+    }
+    Ok(outcome)
 }
 
 /// A property for both kinds of answer.
-fn property(heap: Heap<'_>, found: &Property) -> Result<(serde_json::Value, String), Refusal> {
+fn property(
+    heap: Heap<'_>,
+    found: &Property,
+    page: Option<CodePage>,
+) -> Result<(serde_json::Value, String), Refusal> {
     let mut facts = json!({
         "id": found.id,
         "type": found.type_code,
         "type_name": property_type(found.type_code),
     });
-    let text = value(heap, found, &mut facts)?;
+    let text = value(heap, found, page, &mut facts)?;
     Ok((facts, text))
 }
 
 fn value(
     heap: Heap<'_>,
     found: &Property,
+    page: Option<CodePage>,
     facts: &mut serde_json::Value,
 ) -> Result<String, Refusal> {
     Ok(match found.value {
@@ -67,12 +81,22 @@ fn value(
             let bytes = heap.item(number)?;
             facts["item"] = number.0.into();
             facts["bytes"] = hex(bytes).into();
-            if let Some(text) = text_of(found.type_code, bytes) {
-                facts["text"] = text.into();
+            if let Some(text) = text_of(found.type_code, bytes, page) {
+                facts["text"] = text.plain.into();
             }
-            shown_bytes(found.type_code, bytes)
+            shown_bytes(found.type_code, bytes, page)
         }
     })
+}
+
+/// Whether it is not known what some bytes of its text stand for.
+fn is_unknown(heap: Heap<'_>, found: &Property, page: Option<CodePage>) -> bool {
+    let Value::Item(item) = found.value else {
+        return false;
+    };
+    let bytes = heap.item(item).unwrap_or_default();
+    let text = text_of(found.type_code, bytes, page);
+    text.is_some_and(|text| text.unknown.is_some())
 }
 
 fn shown_number(type_code: u16, number: u32) -> String {
@@ -83,35 +107,41 @@ fn shown_number(type_code: u16, number: u32) -> String {
     }
 }
 
-fn shown_bytes(type_code: u16, bytes: &[u8]) -> String {
+fn shown_bytes(type_code: u16, bytes: &[u8], page: Option<CodePage>) -> String {
     let length = counted(bytes.len() as u64, "byte");
-    if bytes.is_empty() {
-        return length;
-    }
-    if let Some(text) = text_of(type_code, bytes) {
-        let start: String = text.chars().take(PREVIEW * 2).collect();
-        let rest = if start.len() < text.len() { " ..." } else { "" };
-        return format!("{length}: {start:?}{rest}");
-    }
-    let start = &bytes[..bytes.len().min(PREVIEW)];
-    let rest = if start.len() < bytes.len() {
-        " ..."
-    } else {
-        ""
+    let (start, is_cut) = match type_code {
+        _ if bytes.is_empty() => return length,
+        TEXT => {
+            let text = utf_16(bytes);
+            let start: String = text.chars().take(PREVIEW * 2).collect();
+            (format!("{start:?}"), start.len() < text.len())
+        }
+        TEXT_8 => {
+            let start = &bytes[..bytes.len().min(PREVIEW * 2)];
+            let text = escaped(start, page);
+            (format!("\"{text}\""), start.len() < bytes.len())
+        }
+        _ => {
+            let start = &bytes[..bytes.len().min(PREVIEW)];
+            (hex(start), start.len() < bytes.len())
+        }
     };
-    format!("{length}: {}{rest}", hex(start))
+    let rest = if is_cut { " ..." } else { "" };
+    format!("{length}: {start}{rest}")
 }
 
 #[cfg(test)]
 mod tests {
     use super::*;
-    use crate::values::{TEXT, TEXT_8};
 
     #[test]
     fn long_values_are_cut() {
-        assert_eq!(shown_bytes(TEXT, &[]), "0 bytes");
-        assert_eq!(shown_bytes(0x102, &[1, 2]), "2 bytes: 0102");
-        assert!(shown_bytes(0x102, &[0; 33]).ends_with(" ..."));
-        assert!(shown_bytes(TEXT_8, &[b'a'; 65]).ends_with("a\" ..."));
+        let shown = |type_code, bytes: &[u8]| shown_bytes(type_code, bytes, None);
+        assert_eq!(shown(TEXT, &[]), "0 bytes");
+        assert_eq!(shown(0x102, &[1, 2]), "2 bytes: 0102");
+        assert!(shown(0x102, &[0; 33]).ends_with(" ..."));
+        assert!(shown(TEXT, &[b'a', 0].repeat(65)).ends_with("a\" ..."));
+        assert!(shown(TEXT_8, &[b'a'; 65]).ends_with("a\" ..."));
+        assert_eq!(shown(TEXT_8, b"caf\xE9"), "4 bytes: \"caf\\xe9\"");
     }
 }

@@ -1,6 +1,6 @@
 use crate::names;
 use crate::outcome::Failure;
-use rekwonuda::{Image, LONGEST_IMAGE};
+use rekwonuda::{Edition, Image, LONGEST_IMAGE};
 use std::fmt::Display;
 use std::fs::{File, Metadata};
 use std::io::{self, Read};
@@ -66,6 +66,23 @@ impl Source {
 
     pub fn is_too_long(&self) -> bool {
         self.size.is_none_or(|size| size > LONGEST_IMAGE)
+    }
+
+    /// The version that stands in its header, whether that is accepted or not.
+    pub fn version(&self) -> u16 {
+        self.number_at(10, 2) as u16
+    }
+
+    /// The edition that the version stands for. Whatever has another version is refused before its
+    /// edition matters.
+    pub fn edition(&self) -> Edition {
+        Edition::of_version(self.version()).unwrap_or(Edition::Bits64)
+    }
+
+    /// The number that stands there, the lowest byte first.
+    pub fn number_at(&self, place: u64, length: usize) -> u64 {
+        let bytes = self.bytes_at(place, length).iter().rev();
+        bytes.fold(0, |number, byte| number << 8 | u64::from(*byte))
     }
 
     /// The bytes there, or as many of them as the image has.

@@ -1,17 +1,17 @@
 use crate::account::{Account, Spot};
 use crate::args::TableArguments;
+use crate::code_pages::{self, CodePage};
 use crate::contexts::{named, Context};
 use crate::grid::{Grid, Head};
 use crate::keys::Keys;
-use crate::names::on_one_line;
 use crate::outcome::{At, Failure, Outcome};
 use crate::output::{complain, Output};
 use crate::source::Source;
 use crate::tags::{headings, name};
-use crate::values::{ascii, number, text_of, time, to_the_second, BOOLEAN, TEXT_8, TIME};
+use crate::values::{number, text_of, time, to_the_second, Text, BOOLEAN, TEXT_8, TIME};
 use crate::words::{counted, cut, hex, property_type};
 use indicatif::HumanCount;
-use rekwonuda::{Cell, ItemId, Node, Refusal, RowsPlace, Table, Tag};
+use rekwonuda::{Cell, Edition, ItemId, Node, Refusal, RowsPlace, Table, Tag};
 use serde_json::{json, Value};
 use std::io::{stdout, IsTerminal};
 
@@ -26,7 +26,9 @@ pub fn table(
     let spot = Context::Table.spot(node, &data);
     let table = Table::new(&data);
     let rows = row_count(table, node, &data)?;
-    let read = Reading::of(table, rows).at(spot.clone())?;
+    let page = arguments.text.code_page;
+    let read = Reading::of(table, rows, source.edition(), page).at(spot.clone())?;
+    code_pages::tell(page, out)?;
     if out.is_json() {
         read.tell(out)?;
     } else if arguments.csv {
@@ -67,6 +69,7 @@ enum Form {
 /// A table that the library accepts, with all that stands in its rows.
 struct Reading<'a> {
     table: Table<'a>,
+    page: Option<CodePage>,
     tags: Vec<Tag>,
     rows: Vec<Row>,
 }
@@ -80,13 +83,19 @@ struct Row {
 }
 
 impl<'a> Reading<'a> {
-    fn of(table: Table<'a>, rows: u32) -> Result<Reading<'a>, Refusal> {
+    fn of(
+        table: Table<'a>,
+        rows: u32,
+        edition: Edition,
+        page: Option<CodePage>,
+    ) -> Result<Reading<'a>, Refusal> {
         let tags: Result<Vec<Tag>, Refusal> = table
             .columns()
             .map(|column| column.map(|column| column.tag))
             .collect();
         let mut read = Reading {
             table,
+            page,
             tags: tags?,
             rows: Vec::new(),
         };
@@ -98,7 +107,7 @@ impl<'a> Reading<'a> {
                 Some(Ok(Cell::Number(id))) => u32::try_from(*id).ok(),
                 _ => None,
             });
-            let indexed = id.map(|id| table.find_row(id));
+            let indexed = id.map(|id| table.find_row_in(edition, id));
             read.rows.push(Row { cells, id, indexed });
         }
         Ok(read)
@@ -135,6 +144,9 @@ impl<'a> Reading<'a> {
         out.refused(&accounts)?;
         if let Some(note) = self.note_on_index().filter(|_| !out.is_json()) {
             complain(&note);
+        }
+        if self.has_unknown_text() {
+            code_pages::note_unknown(source, out);
         }
         let outcomes = accounts.iter().map(|account| account.outcome);
         Ok(outcomes.max().unwrap_or(Outcome::Done))
@@ -199,8 +211,8 @@ impl<'a> Reading<'a> {
             Ok(Cell::Item(item)) => {
                 let bytes = self.bytes(item);
                 let mut facts = json!({ "item": item.0, "bytes": hex(bytes) });
-                if let Some(text) = text_of(tag.type_code(), bytes) {
-                    facts["text"] = text.into();
+                if let Some(text) = self.text_of(tag, item) {
+                    facts["text"] = text.plain.into();
                 }
                 facts
             }
@@ -250,13 +262,28 @@ impl<'a> Reading<'a> {
     }
 
     fn item_text(&self, tag: Tag, item: ItemId, form: Form) -> String {
-        let bytes = self.bytes(item);
-        match (tag.type_code(), text_of(tag.type_code(), bytes)) {
-            (TEXT_8, _) => ascii(bytes),
-            (_, Some(text)) if form == Form::AsStored => text,
-            (_, Some(text)) => on_one_line(&text),
-            _ => hex(bytes),
+        match self.text_of(tag, item) {
+            Some(text) if form == Form::AsStored && tag.type_code() != TEXT_8 => text.plain,
+            Some(text) => text.shown,
+            None => hex(self.bytes(item)),
         }
+    }
+
+    fn text_of(&self, tag: Tag, item: ItemId) -> Option<Text> {
+        text_of(tag.type_code(), self.bytes(item), self.page)
+    }
+
+    /// Whether it is not known what some bytes of its texts stand for.
+    fn has_unknown_text(&self) -> bool {
+        let is_unknown = |(tag, cell): (&Tag, &Result<Cell, Refusal>)| match cell {
+            Ok(Cell::Item(item)) => {
+                let text = self.text_of(*tag, *item);
+                text.is_some_and(|text| text.unknown.is_some())
+            }
+            _ => false,
+        };
+        let mut rows = self.rows.iter();
+        rows.any(|row| self.tags.iter().zip(&row.cells).any(is_unknown))
     }
 
     /// The bytes of an item that a cell names, which the library has tested.

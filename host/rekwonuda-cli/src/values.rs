@@ -1,5 +1,7 @@
 //! Values by their types, as a reader wants to see them.
 
+use crate::code_pages::{character, CodePage};
+use crate::names::{on_one_line, steers};
 use crate::words::hex;
 
 pub const TEXT: u16 = 0x1F;
@@ -14,33 +16,62 @@ const STEPS: u64 = 10_000_000;
 const DAY: u64 = 24 * 60 * 60;
 const FIRST_YEAR: u64 = 1601;
 
-/// The text of a value of one of the two text types. Eight-bit text is of no stated code page, so
-/// that only its ASCII part is certain.
-pub fn text_of(type_code: u16, bytes: &[u8]) -> Option<String> {
+/// A text out of a file.
+#[derive(Clone, Debug, Default, PartialEq, Eq)]
+pub struct Text {
+    /// U+FFFD stands for what is no character, and for what is not known to be one.
+    pub plain: String,
+    /// On one line: what would steer a terminal is escaped, and so is what is not known.
+    pub shown: String,
+    /// All bytes, where there is one of which it is not known what it stands for.
+    pub unknown: Option<Vec<u8>>,
+}
+
+/// The text of a value of one of the two text types. What 8-bit text stands for is not stated beside it;
+/// without a code page only its ASCII part is certain.
+pub fn text_of(type_code: u16, bytes: &[u8], page: Option<CodePage>) -> Option<Text> {
     match type_code {
         TEXT => {
-            let units = bytes.chunks(2).map(|pair| match pair {
-                [low, high] => u16::from_le_bytes([*low, *high]),
-                _ => 0xFFFD,
-            });
-            let read = char::decode_utf16(units);
-            Some(
-                read.map(|unit| unit.unwrap_or(char::REPLACEMENT_CHARACTER))
-                    .collect(),
-            )
+            let plain = utf_16(bytes);
+            Some(Text {
+                shown: on_one_line(&plain),
+                plain,
+                unknown: None,
+            })
         }
-        TEXT_8 => Some(String::from_utf8_lossy(bytes).into_owned()),
+        TEXT_8 => {
+            let known = |byte: &u8| character(*byte, page);
+            let plain = bytes.iter().map(|byte| known(byte).unwrap_or('\u{FFFD}'));
+            let is_unknown = bytes.iter().any(|byte| known(byte).is_none());
+            Some(Text {
+                plain: plain.collect(),
+                shown: escaped(bytes, page),
+                unknown: is_unknown.then(|| bytes.to_vec()),
+            })
+        }
         _ => None,
     }
 }
 
-/// Eight-bit text with every byte certain: what is no printable ASCII is escaped.
-pub fn ascii(bytes: &[u8]) -> String {
+/// Text of 16-bit units.
+pub fn utf_16(bytes: &[u8]) -> String {
+    let units = bytes.chunks(2).map(|pair| match pair {
+        [low, high] => u16::from_le_bytes([*low, *high]),
+        _ => 0xFFFD,
+    });
+    let read = char::decode_utf16(units);
+    read.map(|unit| unit.unwrap_or(char::REPLACEMENT_CHARACTER))
+        .collect()
+}
+
+/// Eight-bit text from which each byte can be had again: what is no printable character, or not known to
+/// be one, is escaped.
+pub fn escaped(bytes: &[u8], page: Option<CodePage>) -> String {
     let mut text = String::new();
     for byte in bytes {
-        match byte {
-            b'\\' => text += "\\\\",
-            b' '..=b'~' => text.push(char::from(*byte)),
+        match character(*byte, page) {
+            Some('\\') => text += "\\\\",
+            Some(character) if !steers(character) => text.push(character),
             _ => text += &format!("\\x{}", hex(&[*byte])),
         }
     }
@@ -114,19 +145,28 @@ mod tests {
 
     #[test]
     fn texts_are_read_by_their_type() {
-        assert_eq!(text_of(TEXT, b"H\0i\0").as_deref(), Some("Hi"));
-        assert_eq!(text_of(TEXT, b"H\0i").as_deref(), Some("H\u{FFFD}"));
-        assert_eq!(text_of(TEXT, b"\0\xD8").as_deref(), Some("\u{FFFD}"));
-        assert_eq!(text_of(TEXT_8, b"Hi").as_deref(), Some("Hi"));
-        assert_eq!(text_of(0x102, b"Hi"), None);
+        let plain = |type_code, bytes| text_of(type_code, bytes, None).map(|text| text.plain);
+        assert_eq!(plain(TEXT, b"H\0i\0").as_deref(), Some("Hi"));
+        assert_eq!(plain(TEXT, b"H\0i").as_deref(), Some("H\u{FFFD}"));
+        assert_eq!(plain(TEXT, b"\0\xD8").as_deref(), Some("\u{FFFD}"));
+        assert_eq!(plain(TEXT_8, b"Hi").as_deref(), Some("Hi"));
+        assert_eq!(
+            plain(TEXT_8, b"a\xC3\xA9").as_deref(),
+            Some("a\u{FFFD}\u{FFFD}")
+        );
+        assert_eq!(plain(0x102, b"Hi"), None);
     }
 
     #[test]
     fn eight_bit_text_keeps_each_byte() {
-        assert_eq!(
-            ascii(b"C:\\a ~\n\x1b\x7f\xe9"),
-            "C:\\\\a ~\\x0a\\x1b\\x7f\\xe9"
-        );
+        let bytes = b"C:\\a ~\n\x1b\x7f\xe9\xa0";
+        let text = text_of(TEXT_8, bytes, None).unwrap();
+        assert_eq!(text.shown, "C:\\\\a ~\\x0a\\x1b\\x7f\\xe9\\xa0");
+        assert_eq!(text.unknown.as_deref(), Some(&bytes[..]));
+        let text = text_of(TEXT_8, bytes, CodePage::of_number(1252)).unwrap();
+        assert_eq!(text.shown, "C:\\\\a ~\\x0a\\x1b\\x7f\u{E9}\u{A0}");
+        assert_eq!(text.plain, "C:\\a ~\n\u{1B}\u{7F}\u{E9}\u{A0}");
+        assert_eq!(text.unknown, None);
     }
 
     #[test]

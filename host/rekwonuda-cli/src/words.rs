@@ -2,7 +2,7 @@
 
 use console::measure_text_width;
 use indicatif::HumanCount;
-use rekwonuda::NodeId;
+use rekwonuda::{Edition, NodeId};
 
 /// The widest that running text gets; a narrower terminal is kept to.
 const WIDEST: usize = 80;
@@ -58,6 +58,15 @@ pub fn cut(text: &str, widest: usize) -> String {
         start.push(character);
     }
     start + "\u{2026}"
+}
+
+/// An edition by both of its names.
+pub fn edition_name(edition: Edition) -> String {
+    let name = match edition {
+        Edition::Bits32 => "ANSI",
+        Edition::Bits64 => "Unicode",
+    };
+    format!("{edition} ({name})")
 }
 
 /// The type of a node by the low five bits of its number.

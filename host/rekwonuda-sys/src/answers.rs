@@ -73,6 +73,8 @@ answers! {
         blocks_offset,
         /// The end-of-file number, at most the length of the image.
         end,
+        /// The edition: 64 or 32.
+        edition,
     }
 
     /// A node.

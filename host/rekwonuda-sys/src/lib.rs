@@ -78,6 +78,7 @@ extern "C" {
         tag: u32,
     ) -> CellAnswer;
     fn rkw_find_row(block: *const u8, len: usize, id: u32) -> RowAnswer;
+    fn rkw_find_row32(block: *const u8, len: usize, id: u32) -> RowAnswer;
     fn rkw_read_row(
         block: *const u8,
         len: usize,
@@ -90,6 +91,7 @@ extern "C" {
     fn rkw_checksum(bytes: *const u8, len: usize) -> u64;
     fn rkw_signature(offset: u64, number: u64) -> u64;
     fn rkw_room(size: u32) -> u64;
+    fn rkw_room32(size: u32) -> u64;
 }
 
 /// Tests the header and says what stands in it. Refusals 1 to 5.
@@ -248,10 +250,16 @@ pub fn cell(block: &[u8], rows: &[u8], row: u32, tag: u32) -> CellAnswer {
     unsafe { rkw_cell(block.as_ptr(), block.len(), start, length, row, tag) }
 }
 
-/// Looks up in the row index which row has that id. Refusals 18, 19 and 23.
+/// Looks up in the row index of a table of a 64-bit file which row has that id. Refusals 18, 19 and 23.
 pub fn find_row(block: &[u8], id: u32) -> RowAnswer {
     // SAFETY: the pointer and the length are those of one slice.
     unsafe { rkw_find_row(block.as_ptr(), block.len(), id) }
+}
+
+/// The same in a table of a 32-bit file. Refusals 18, 19 and 23.
+pub fn find_row32(block: &[u8], id: u32) -> RowAnswer {
+    // SAFETY: the pointer and the length are those of one slice.
+    unsafe { rkw_find_row32(block.as_ptr(), block.len(), id) }
 }
 
 /// The most columns that a table has, and so the most places that [`read_row`] fills.
@@ -297,9 +305,16 @@ pub fn signature(offset: u64, number: u64) -> u64 {
     unsafe { rkw_signature(offset, number) }
 }
 
-/// The room that a block with so many bytes of data takes in a file.
+/// The room that a block with so many bytes of data takes in a 64-bit file.
 #[must_use]
 pub fn room(size: u32) -> u64 {
     // SAFETY: the call takes a number alone, and any will do.
     unsafe { rkw_room(size) }
+}
+
+/// The same in a 32-bit file.
+#[must_use]
+pub fn room32(size: u32) -> u64 {
+    // SAFETY: the call takes a number alone, and any will do.
+    unsafe { rkw_room32(size) }
 }

@@ -1,7 +1,8 @@
 //! A row of a table in one call: what stands in each place, and what is left alone.
 
 use rekwonuda_sys::{
-    cell, column, count_rows, find_row, read_row, table, CellAnswer, CellsAnswer, MOST_COLUMNS,
+    cell, column, count_rows, find_row, find_row32, read_row, table, CellAnswer, CellsAnswer,
+    MOST_COLUMNS,
 };
 
 /// What stands in an area before a call.
@@ -14,6 +15,9 @@ const NAME: u32 = 0x3001_001F;
 
 /// Where the table record names the rows.
 const ROWS: usize = 12 + 14;
+
+/// Where the record of the row index has its entry size.
+const ENTRY_SIZE: usize = 12 + 38 + 2;
 
 /// A heap of three items with a table of two columns: its record, its row index, whose root is 0, and
 /// three rows with one byte left over. The reference is empty, then names an item that there is not,
@@ -94,6 +98,16 @@ fn the_other_calls_answer_by_the_record() {
 }
 
 #[test]
+fn a_row_index_is_of_one_edition() {
+    let mut block = block();
+    assert_eq!(find_row(&block, 7).refusal, 0);
+    assert_eq!(find_row32(&block, 7).fields(), [23, 0, 0, 0, 0]);
+    block[ENTRY_SIZE] = 2;
+    assert_eq!(find_row(&block, 7).fields(), [23, 0, 0, 0, 0]);
+    assert_eq!(find_row32(&block, 7).fields(), [0; 5]);
+}
+
+#[test]
 fn rows_of_a_subnode_are_those_that_are_given() {
     let mut block = block();
     let rows = [5, 0, 0, 0, 0x3F, 0x81, 0, 0, 0xC0].repeat(2);
@@ -104,8 +118,8 @@ fn rows_of_a_subnode_are_those_that_are_given() {
     assert_eq!(count_rows(&block, &[]).rows, 0);
     let subnode = [0, 0, 0, 1, 3, 0x813F];
     assert_eq!(cell(&block, &rows, 1, NAME).fields(), subnode);
-    assert_eq!(count_rows(&block, &[0; 8_176]).rows, 8_176 / 9);
-    assert_eq!(count_rows(&block, &[0; 8_177]).refusal, 23);
+    assert_eq!(count_rows(&block, &[0; 8_180]).rows, 8_180 / 9);
+    assert_eq!(count_rows(&block, &[0; 8_181]).refusal, 23);
     block[ROWS] = 0x60;
-    assert_eq!(count_rows(&block, &[0; 8_177]).rows, 3);
+    assert_eq!(count_rows(&block, &[0; 8_181]).rows, 3);
 }

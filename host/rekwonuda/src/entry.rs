@@ -1,18 +1,19 @@
 //! What the calls on an image answer. The fields of an answer are 64 bits wide; each is given here in
 //! the width that it has in the file.
 
-use crate::{BlockId, Method, NodeId};
+use crate::{BlockId, Edition, Method, NodeId};
 use rekwonuda_sys::{BlockAnswer, HeaderAnswer, NodeAnswer};
 
 /// What the header says.
 ///
 /// ```
-/// use rekwonuda::{Image, Method};
+/// use rekwonuda::{Edition, Image, Method};
 ///
 /// let bytes = std::fs::read("../../samples/office.pst")?;
 /// let header = Image::new(&bytes).header()?;
 /// assert_eq!(header.method, Method::Permute);
 /// assert_eq!(header.end, 49_152);
+/// assert_eq!(header.edition, Edition::Bits64);
 /// # Ok::<(), Box<dyn std::error::Error>>(())
 /// ```
 #[non_exhaustive]
@@ -27,6 +28,8 @@ pub struct Header {
     /// Where the file ends: each page and each block ends there or before. At most the length of the
     /// image; [`Image::hanging`](crate::Image::hanging) has what follows.
     pub end: u64,
+    /// The edition of the file.
+    pub edition: Edition,
 }
 
 /// The number of a page and where it stands.
@@ -136,6 +139,7 @@ impl Header {
                 offset: answer.blocks_offset,
             },
             end: answer.end,
+            edition: Edition::of_header(answer.edition),
         }
     }
 }

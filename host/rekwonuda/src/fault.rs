@@ -41,16 +41,17 @@ macro_rules! faults {
 }
 
 faults! {
-    /// 1: the image is under 564 or over 1,073,741,824 bytes long; or, at 184, shorter than its header
-    /// says.
+    /// 1: the image is under 564 or over 1,073,741,824 bytes long; or, at 184 or in a 32-bit file at
+    /// 168, shorter than its header says.
     1 ImageLength,
     /// 2: the magic bytes are wrong, at 0 or 8.
     2 Magic,
-    /// 3: the version is not 23, that of the 64-bit edition; at 10.
+    /// 3: the version is none of 14, 15 and 23; at 10.
     3 Version,
-    /// 4: a checksum of the header differs, at 4 or 524.
+    /// 4: a checksum of the header differs, at 4 or 524; a 32-bit file has the one at 4 alone.
     4 HeaderChecksum,
-    /// 5: the header's sentinel or encoding method is wrong, at 512 or 513.
+    /// 5: the header's sentinel or encoding method is wrong, at 512 or 513, in a 32-bit file at 460 or
+    /// 461.
     5 Encoding,
     /// 6: the offset of a page is not allowed, or the page goes past the end of the file.
     6 PageOffset,

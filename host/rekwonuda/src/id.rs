@@ -37,7 +37,8 @@ macro_rules! id {
 }
 
 id! {
-    /// The number of a node. A file stores it in eight bytes, of which the low four count.
+    /// The number of a node. It has four bytes; a 64-bit file stores it in eight, of which the low four
+    /// count.
     ///
     /// ```
     /// use rekwonuda::NodeId;
@@ -52,7 +53,7 @@ id! {
 id! {
     /// The number of a block. Bit 0 is reserved: numbers that differ only there name one block, and
     /// [`Image::find_block`], [`Image::test_block`] and [`Image::read_block`] answer alike for them. As
-    /// values they differ; see [`BlockId::key`].
+    /// values they differ; see [`BlockId::key`]. In a 32-bit file they are under 2^32.
     ///
     /// [`Image::find_block`]: crate::Image::find_block
     /// [`Image::test_block`]: crate::Image::test_block

@@ -1,7 +1,7 @@
 use crate::refusal::answered;
 use crate::{
-    Block, BlockId, Blocks, Fault, Header, Lookup, Node, NodeId, Nodes, Refusal, LARGEST_BLOCK,
-    SHORTEST_IMAGE,
+    Block, BlockId, Blocks, Edition, Fault, Header, Lookup, Node, NodeId, Nodes, Refusal,
+    LARGEST_BLOCK, SHORTEST_IMAGE,
 };
 use rekwonuda_sys::{self as sys, NodeAnswer};
 
@@ -268,7 +268,8 @@ impl<'a> Image<'a> {
         if !data.is_internal() {
             return Ok(vec![data]);
         }
-        if let Some(blocks) = listed_blocks(&self.block_data(data)?) {
+        let root = self.block_data(data)?;
+        if let Some(blocks) = listed_blocks(&root, self.header()?.edition) {
             return Ok(blocks);
         }
         let root = self.find_block(data)?.entry;
@@ -280,21 +281,24 @@ impl<'a> Image<'a> {
     }
 }
 
-const MOST_LISTED: usize = 1_021;
-
 /// The blocks that the root block of a data tree of one level lists: 1, 1, their count in two bytes,
-/// four bytes more, and then eight bytes for each number.
-fn listed_blocks(root: &[u8]) -> Option<Vec<BlockId>> {
+/// four bytes more, and then eight bytes for each number, in a 32-bit file four.
+fn listed_blocks(root: &[u8], edition: Edition) -> Option<Vec<BlockId>> {
     let (head, numbers) = root.split_first_chunk::<8>()?;
     let count = usize::from(u16::from_le_bytes([head[2], head[3]]));
     let blocks: Vec<BlockId> = numbers
-        .chunks(8)
-        .filter_map(|number| number.try_into().ok())
-        .map(|number| BlockId(u64::from_le_bytes(number)))
+        .chunks(edition.width())
+        .map(|number| BlockId(number_of(number)))
         .collect();
     let is_list = head[..2] == [1, 1]
-        && (1..=MOST_LISTED).contains(&count)
-        && root.len() == 8 + 8 * count
+        && (1..=edition.most_listed()).contains(&count)
+        && root.len() == 8 + edition.width() * count
         && !blocks.iter().any(|block| block.is_internal());
     is_list.then_some(blocks)
+}
+
+/// The number that these bytes are, the lowest first.
+pub(crate) fn number_of(bytes: &[u8]) -> u64 {
+    let bytes = bytes.iter().rev();
+    bytes.fold(0, |number, byte| number << 8 | u64::from(*byte))
 }

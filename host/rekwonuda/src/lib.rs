@@ -1,5 +1,5 @@
-//! A reader of Outlook .pst files of the 64-bit ("Unicode") edition in which nothing is taken on
-//! trust.
+//! A reader of Outlook .pst files of both editions, the 64-bit ("Unicode") and the older 32-bit
+//! ("ANSI") one, in which nothing is taken on trust.
 //!
 //! A file may hold any bytes. A call answers, or it refuses with a [`Refusal`]: the first fault met, and
 //! its place. That something is absent is an answer and no refusal.
@@ -21,12 +21,12 @@
 //!
 //! Every answer and every refusal is that of the proved library `rkw`, which is called through crate
 //! `rekwonuda-sys`. This crate gives its calls Rust's types. Code of its own, tested and not proved, are
-//! the words of a refusal and what is put together from several proved answers: the iterators
-//! [`Image::nodes`], [`Image::blocks`], [`Heap::properties`] and [`Table::columns`], the scan of
-//! [`Table::find_column`], the pieces of [`Image::find_nodes`], the buffers of [`Image::block_data`] and
-//! [`Image::node_data`], where [`Image::hanging`] begins, and that a table lacks its rows. Two calls read
-//! bytes of the image by themselves: [`Image::data_blocks`] a list of blocks, [`Image::wrong_node_key`]
-//! and its like the pages of a tree.
+//! the words of a refusal, what an [`Edition`] says of versions and bounds, and what is put together from
+//! several proved answers: the iterators [`Image::nodes`], [`Image::blocks`], [`Heap::properties`] and
+//! [`Table::columns`], the scan of [`Table::find_column`], the pieces of [`Image::find_nodes`], the buffers
+//! of [`Image::block_data`] and [`Image::node_data`], where [`Image::hanging`] begins, and that a table
+//! lacks its rows. Two calls read bytes of the image by themselves: [`Image::data_blocks`] a list of
+//! blocks, [`Image::wrong_node_key`] and its like the pages of a tree.
 #![deny(missing_docs)]
 #![forbid(unsafe_code)]
 #![warn(
@@ -35,17 +35,20 @@
     clippy::missing_panics_doc
 )]
 
+mod edition;
 mod entry;
 mod fault;
 mod heap;
 mod id;
 mod image;
+mod layout;
 mod list;
 mod method;
 mod refusal;
 mod table;
 mod wrong_key;
 
+pub use edition::Edition;
 pub use entry::{Block, Header, Lookup, Node, PageReference};
 pub use fault::Fault;
 pub use heap::{Heap, Properties, Property, Value};
@@ -65,11 +68,11 @@ pub const SHORTEST_IMAGE: u64 = 564;
 /// The longest image that is taken, in bytes: 1 GiB.
 pub const LONGEST_IMAGE: u64 = 1 << 30;
 
-/// The most bytes that a block holds.
-pub const LARGEST_BLOCK: usize = 8_176;
+/// The most bytes that a block holds, and a heap, in either edition; see [`Edition::largest_block`].
+pub const LARGEST_BLOCK: usize = Edition::Bits32.largest_block();
 
-/// The most bytes that the data of a node has: 1,021 blocks in a data tree of one level.
-pub const LONGEST_DATA: usize = 1_021 * LARGEST_BLOCK;
+/// The most bytes that the data of a node has in either edition; see [`Edition::longest_data`].
+pub const LONGEST_DATA: usize = Edition::Bits32.longest_data();
 
 /// The checksum of the bytes: polynomial EDB88320 hex, reflected, start 0, no inversion.
 #[must_use]
@@ -83,9 +86,16 @@ pub fn signature(offset: u64, number: u64) -> u16 {
     sys::signature(offset, number) as u16
 }
 
-/// The room that a block with so many bytes of data takes in a file: the smallest multiple of 64
-/// that holds `size` + 16.
+/// The room that a block with so many bytes of data takes in a 64-bit file: the smallest multiple of
+/// 64 that holds `size` + 16.
 #[must_use]
 pub fn room(size: u32) -> u64 {
     sys::room(size)
+}
+
+/// The room that a block with so many bytes of data takes in a 32-bit file: the smallest multiple of
+/// 64 that holds `size` + 12.
+#[must_use]
+pub fn room32(size: u32) -> u64 {
+    sys::room32(size)
 }

@@ -97,11 +97,11 @@ impl Refusal {
             }
             (Fault::Magic, 0) => "the file does not begin with the mark of a .pst file",
             (Fault::Magic, _) => "the second mark of a .pst file is not there",
-            (Fault::Version, _) => "the version is not 23, that of the 64-bit edition",
+            (Fault::Version, _) => "the version is none of 14, 15 and 23",
             (Fault::HeaderChecksum, 4) => "the first checksum of the header differs",
             (Fault::HeaderChecksum, _) => "the second checksum of the header differs",
-            (Fault::Encoding, 512) => "the header's sentinel byte is wrong",
-            (Fault::Encoding, 513) => "the header names an encoding method that there is not",
+            (Fault::Encoding, 512 | 460) => "the header's sentinel byte is wrong",
+            (Fault::Encoding, 513 | 461) => "the header names an encoding method that there is not",
             (Fault::Encoding, _) => "the encoding method is over 2",
             _ => "a fault without a name",
         }

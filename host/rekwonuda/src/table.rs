@@ -1,6 +1,6 @@
 use crate::refusal::answered;
-use crate::{Heap, ItemId, NodeId, Refusal, Tag};
-use rekwonuda_sys::{self as sys, CellAnswer, MOST_COLUMNS};
+use crate::{Edition, Heap, ItemId, NodeId, Refusal, Tag};
+use rekwonuda_sys::{self as sys, CellAnswer, RowAnswer, MOST_COLUMNS};
 use std::iter::FusedIterator;
 
 /// A table context: the bytes of one block with a heap on it, decoded, and where the rows stand in a
@@ -172,7 +172,7 @@ impl<'a> Table<'a> {
     /// # Errors
     ///
     /// Refusals 18, 19 and 23; 19 too where the rows stand in an item that the heap has not, 23 too where
-    /// those of a subnode are over 8,176 bytes.
+    /// those of a subnode are over 8,180 bytes.
     pub fn row_count(&self) -> Result<Option<u32>, Refusal> {
         let in_subnode = || Ok(matches!(self.record()?.rows, RowsPlace::Subnode(_)));
         if self.rows.is_none() && in_subnode()? {
@@ -231,19 +231,62 @@ impl<'a> Table<'a> {
 
     /// Looks up in the row index which row has that id: its number as stored, and `None` where the index
     /// names none. Whether the table has such a row, and that the row has that id, is not tested; it stands
-    /// in the row's cell of [`Tag::ROW_ID`].
+    /// in the row's cell of [`Tag::ROW_ID`]. It is for tables of 64-bit files, whose row index has entries
+    /// of four bytes.
     ///
     /// # Errors
     ///
-    /// Refusals 18, 19 and 23, of the table and of the items of the row index on the way.
+    /// Refusals 18, 19 and 23, of the table and of the items of the row index on the way; 23 for the row
+    /// index of a 32-bit file.
     pub fn find_row(&self, id: u32) -> Result<Option<u32>, Refusal> {
-        let answer = answered(sys::find_row(self.block, id))?;
-        Ok((answer.found == 1).then_some(answer.row as u32))
+        row_of(sys::find_row(self.block, id))
+    }
+
+    /// The same for tables of 32-bit files, whose row index has entries of two bytes.
+    ///
+    /// # Errors
+    ///
+    /// As of [`Table::find_row`]; 23 for the row index of a 64-bit file.
+    pub fn find_row32(&self, id: u32) -> Result<Option<u32>, Refusal> {
+        row_of(sys::find_row32(self.block, id))
+    }
+
+    /// The same for a table of a file of that edition, which [`Header::edition`] says; a heap does not.
+    ///
+    /// ```
+    /// use rekwonuda::{Image, NodeId, Table};
+    ///
+    /// for sample in ["office.pst", "small-office.pst"] {
+    ///     let bytes = std::fs::read(format!("../../samples/{sample}"))?;
+    ///     let image = Image::new(&bytes);
+    ///     let edition = image.header()?.edition;
+    ///     let data = image.node_data(NodeId(0x802D))?.expect("it is there");
+    ///     let row = Table::new(&data).find_row_in(edition, 0x8082)?;
+    ///     assert!(row.is_some(), "Inbox is one of these folders");
+    /// }
+    /// # Ok::<(), Box<dyn std::error::Error>>(())
+    /// ```
+    ///
+    /// # Errors
+    ///
+    /// As of [`Table::find_row`] and [`Table::find_row32`].
+    ///
+    /// [`Header::edition`]: crate::Header::edition
+    pub fn find_row_in(&self, edition: Edition, id: u32) -> Result<Option<u32>, Refusal> {
+        match edition {
+            Edition::Bits32 => self.find_row32(id),
+            Edition::Bits64 => self.find_row(id),
+        }
     }
 
     fn given_rows(&self) -> &'a [u8] {
         self.rows.unwrap_or_default()
     }
+}
+
+fn row_of(answer: RowAnswer) -> Result<Option<u32>, Refusal> {
+    let answer = answered(answer)?;
+    Ok((answer.found == 1).then_some(answer.row as u32))
 }
 
 impl Cell {

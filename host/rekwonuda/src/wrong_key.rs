@@ -1,7 +1,9 @@
 //! The entry of a page whose key is at fault, and what the page may hold. The proved calls hand out the
 //! page's offset and the entry's index; all else is read here, from the page and from those above it.
 
-use crate::{checksum, signature, Fault, Image, PageReference, Refusal};
+use crate::image::number_of;
+use crate::layout::Layout;
+use crate::{checksum, signature, Edition, Fault, Image, PageReference, Refusal};
 use std::iter::FusedIterator;
 
 const PAGE: usize = 512;
@@ -25,7 +27,7 @@ const MOST_LEVEL: u8 = 7;
 /// ```
 #[derive(Clone, Copy, Debug, PartialEq, Eq, Hash)]
 pub struct Key {
-    /// All eight bytes, as they stand in the page.
+    /// All its bytes, as they stand in the page: eight, in a 32-bit file four.
     pub stored: u64,
     /// What of them is compared: in the node tree the low four bytes, in the block tree all but bit 0.
     pub compared: u64,
@@ -145,6 +147,7 @@ pub struct WrongKeys<'a> {
     /// The file, without what hangs on behind it.
     bytes: &'a [u8],
     tree: Tree,
+    layout: &'static Layout,
     /// The branches to be followed, the next one last.
     ahead: Vec<Branch>,
     /// How many more are followed. The pages that a check accepts all stand at offsets of their own, so
@@ -160,10 +163,12 @@ impl<'a> WrongKeys<'a> {
             Tree::Blocks => header.blocks,
         });
         let end = header.map_or(0, |header| header.end as usize);
+        let edition = header.map_or(Edition::Bits64, |header| header.edition);
         let bytes = image.bytes().get(..end).unwrap_or_default();
         Self {
             bytes,
             tree,
+            layout: Layout::of(edition),
             ahead: root.map(Branch::root).into_iter().collect(),
             left: bytes.len() / STEP,
         }
@@ -176,7 +181,8 @@ impl Iterator for WrongKeys<'_> {
     fn next(&mut self) -> Option<Self::Item> {
         while let Some(left) = self.left.checked_sub(1) {
             self.left = left;
-            let Some(page) = Page::behind(self.ahead.pop()?, self.tree, self.bytes) else {
+            let branch = self.ahead.pop()?;
+            let Some(page) = Page::behind(branch, self.tree, self.layout, self.bytes) else {
                 continue;
             };
             let wrong = page.wrong_key();
@@ -214,10 +220,10 @@ impl Tree {
     }
 
     /// How many bytes an entry has in a page of that level, and how many entries the page has at most.
-    fn entries(self, level: u8) -> (u8, u8) {
+    fn entries(self, level: u8, layout: &Layout) -> (u8, u8) {
         match (self, level) {
-            (Self::Nodes, 0) => (32, 15),
-            _ => (24, 20),
+            (Self::Nodes, 0) => layout.node_leaf,
+            _ => layout.other,
         }
     }
 }
@@ -247,16 +253,18 @@ impl Branch {
 struct Page<'a> {
     branch: Branch,
     tree: Tree,
+    layout: &'static Layout,
     bytes: &'a [u8],
 }
 
 impl<'a> Page<'a> {
-    fn behind(branch: Branch, tree: Tree, file: &'a [u8]) -> Option<Self> {
+    fn behind(branch: Branch, tree: Tree, layout: &'static Layout, file: &'a [u8]) -> Option<Self> {
         let start = usize::try_from(branch.page.offset).ok()?;
         let bytes = file.get(start..start.checked_add(PAGE)?)?;
         let page = Self {
             branch,
             tree,
+            layout,
             bytes,
         };
         let stands = start.is_multiple_of(STEP) && start >= FIRST_OFFSET;
@@ -266,17 +274,23 @@ impl<'a> Page<'a> {
     /// Whether its kind, number, signature and checksum are right.
     fn is_sealed(&self) -> bool {
         let PageReference { number, offset } = self.branch.page;
-        self.bytes[496..498] == [self.tree.kind(); 2]
-            && self.bytes[504..] == number.to_le_bytes()
-            && self.bytes[498..500] == signature(offset, number).to_le_bytes()
-            && self.bytes[500..504] == checksum(&self.bytes[..496]).to_le_bytes()
+        let Layout {
+            width,
+            trailer,
+            checksum: sum,
+            ..
+        } = *self.layout;
+        self.bytes[trailer..trailer + 2] == [self.tree.kind(); 2]
+            && number_of(&self.bytes[Layout::NUMBER..Layout::NUMBER + width]) == number
+            && self.bytes[trailer + 2..trailer + 4] == signature(offset, number).to_le_bytes()
+            && self.bytes[sum..sum + 4] == checksum(&self.bytes[..trailer]).to_le_bytes()
     }
 
     /// Whether its level and counts are right. That it has entries is not asked: without any it has no
     /// key at fault.
     fn is_counted(&self) -> bool {
-        let [count, room, size, level] = [488, 489, 490, 491].map(|at| self.bytes[at]);
-        let (entry_size, most) = self.tree.entries(level);
+        let [count, room, size, level] = self.counts();
+        let (entry_size, most) = self.tree.entries(level, self.layout);
         self.branch.level.unwrap_or(level) == level
             && level <= MOST_LEVEL
             && size == entry_size
@@ -284,20 +298,26 @@ impl<'a> Page<'a> {
             && count <= room
     }
 
+    /// The count of its entries, the room for them, their size, and its level.
+    fn counts(&self) -> [u8; 4] {
+        [0, 1, 2, 3].map(|at| self.bytes[self.layout.counts + at])
+    }
+
     fn level(&self) -> u8 {
-        self.bytes[491]
+        self.counts()[3]
     }
 
     fn count(&self) -> usize {
-        self.bytes[488].into()
+        self.counts()[0].into()
     }
 
-    /// Eight bytes of an entry.
-    fn field(&self, entry: usize, at: usize) -> u64 {
-        let (size, _) = self.tree.entries(self.level());
-        let start = entry * usize::from(size) + at;
-        let bytes = self.bytes[start..start + 8].iter().rev();
-        bytes.fold(0, |number, byte| number << 8 | u64::from(*byte))
+    /// A field of an entry: the key is the first, and of an index entry a page's number and offset are
+    /// the next two.
+    fn field(&self, entry: usize, field: usize) -> u64 {
+        let (size, _) = self.tree.entries(self.level(), self.layout);
+        let width = self.layout.width;
+        let start = entry * usize::from(size) + field * width;
+        number_of(&self.bytes[start..start + width])
     }
 
     fn key(&self, entry: usize) -> Key {
@@ -339,8 +359,8 @@ impl<'a> Page<'a> {
             let is_last = entry + 1 == count;
             Branch {
                 page: PageReference {
-                    number: self.field(entry, 8),
-                    offset: self.field(entry, 16),
+                    number: self.field(entry, 1),
+                    offset: self.field(entry, 2),
                 },
                 level,
                 from: self.key(entry).compared,

@@ -2,14 +2,16 @@
 
 mod images;
 
-use images::{sample, sound};
+use images::{sample, sound, sound_of};
 use model::build::seal::seal_page;
 use model::build::{build, Built, Plan};
 use model::damage::{spoil, BLOCK};
 use model::page::Tree;
 use model::random::Random;
+use model::Edition;
 use rekwonuda::{
-    checksum, room, signature, BlockId, Fault, Heap, Image, ItemId, Method, NodeId, Refusal, Value,
+    checksum, room, room32, signature, BlockId, Fault, Heap, Image, ItemId, Method, NodeId,
+    Refusal, Value,
 };
 
 #[test]
@@ -49,7 +51,12 @@ fn the_sample_is_answered_as_known() {
 
 #[test]
 fn lists_are_what_was_built() {
-    let built = sound();
+    for edition in Edition::BOTH {
+        lists_are_of(&sound_of(edition));
+    }
+}
+
+fn lists_are_of(built: &Built) {
     let image = Image::new(&built.image);
     let nodes: Vec<u32> = image.nodes().map(|node| node.unwrap().id.0).collect();
     let placed: Vec<u32> = built.nodes.iter().map(|node| node.node).collect();
@@ -115,10 +122,15 @@ fn a_list_ends_behind_the_highest_key() {
 
 #[test]
 fn blocks_and_nodes_are_read_decoded() {
-    let built = sound();
+    for edition in Edition::BOTH {
+        are_read_decoded(&sound_of(edition));
+    }
+}
+
+fn are_read_decoded(built: &Built) {
     let image = Image::new(&built.image);
     for block in &built.blocks {
-        let mut out = [0xAA; 8_177];
+        let mut out = [0xAA; 8_181];
         let length = image.read_block(BlockId(block.number), &mut out).unwrap();
         assert_eq!(out[..length], block.data);
         assert!(out[length..].iter().all(|byte| *byte == 0xAA));
@@ -138,7 +150,12 @@ fn blocks_and_nodes_are_read_decoded() {
 
 #[test]
 fn data_blocks_are_those_that_were_built() {
-    let built = sound();
+    for edition in Edition::BOTH {
+        data_blocks_are_of(&sound_of(edition));
+    }
+}
+
+fn data_blocks_are_of(built: &Built) {
     let image = Image::new(&built.image);
     for node in image.nodes().map(Result::unwrap) {
         let placed = built.nodes.iter().find(|placed| placed.node == node.id.0);
@@ -177,12 +194,17 @@ fn lists_refused(image: Image<'_>) -> usize {
 
 #[test]
 fn a_data_tree_that_is_no_list_is_refused_as_its_node_is() {
-    let built = sound();
+    for edition in Edition::BOTH {
+        is_refused_as_its_node_is(&sound_of(edition));
+    }
+}
+
+fn is_refused_as_its_node_is(built: &Built) {
     let mut random = Random::new(1);
     assert_eq!(lists_refused(Image::new(&built.image)), 0);
     let mut refused = 0;
     for damage in BLOCK.iter().cycle().take(40 * BLOCK.len()) {
-        let image = spoil(&built, *damage, true, &mut random).image;
+        let image = spoil(built, *damage, true, &mut random).image;
         refused += lists_refused(Image::new(&image));
     }
     assert!(refused > 40, "{refused}");
@@ -226,6 +248,7 @@ fn bare_calls_answer_as_the_rules_say() {
     assert_eq!(checksum(&[0x80]), 0xEDB8_8320);
     assert_eq!(signature(0x0090_8A00, 0x1518), 0x9F88);
     assert_eq!(room(4_092), 4_160);
+    assert_eq!([52, 53, 8_180].map(room32), [64, 128, 8_192]);
     let mut bytes: Vec<u8> = (0..16).collect();
     Method::Cyclic.encode(BlockId(0x1518), &mut bytes);
     assert_eq!(bytes[..4], [0x37, 0x98, 0xAE, 0x32]);
@@ -253,6 +276,19 @@ fn refusals_say_what_is_wrong_and_where() {
         "refusal 1: the image is under 564 or over 1,073,741,824 bytes long"
     );
     assert_eq!(said(1, 184, 0), "refusal 1: the image is shorter than its header says, as of a file that was cut short; at 0xb8 (184)");
+    assert_eq!(
+        said(1, 168, 0),
+        said(1, 184, 0).replace("0xb8 (184)", "0xa8 (168)")
+    );
+    assert_eq!(
+        said(3, 10, 0),
+        "refusal 3: the version is none of 14, 15 and 23; at 0xa (10)"
+    );
+    for (old, place) in [(460, 512), (461, 513)] {
+        let [told, other] = [old, place].map(|place| said(5, place, 0));
+        let [told, other] = [&told, &other].map(|told| told.split_once("; at "));
+        assert_eq!(told.unwrap().0, other.unwrap().0);
+    }
     assert_eq!(said(5, 0, 0), "refusal 5: the encoding method is over 2");
     assert_eq!(said(23, 0, 0), "refusal 23: the shape of a table is wrong");
     assert_eq!(said(11, 0x4E00, 3), "refusal 11: an entry's key is not above the one before it, as in a page that was shuffled or overwritten; entry 3 (counted from 0) of the page at 0x4e00 (19968)");

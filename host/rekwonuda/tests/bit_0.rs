@@ -2,6 +2,7 @@
 
 use model::build::bit_0::{data_one, data_trees, highest, listed, ticket, twins};
 use model::build::Built;
+use model::Edition;
 use rekwonuda::{Block, BlockId, Fault, Image, NodeId};
 
 const NODE: NodeId = NodeId(0x8022);
@@ -13,7 +14,13 @@ fn blocks(built: &Built) -> Vec<Block> {
 
 #[test]
 fn a_node_reads_the_block_that_is_listed_without_the_bit() {
-    let built = ticket();
+    for edition in Edition::BOTH {
+        reads_without_the_bit(edition);
+    }
+}
+
+fn reads_without_the_bit(edition: Edition) {
+    let built = ticket(edition);
     let image = Image::new(&built.image);
     let node = image.find_node(NODE).unwrap().entry.unwrap();
     assert_eq!(node.data, Some(BlockId(0x1519)));
@@ -27,7 +34,13 @@ fn a_node_reads_the_block_that_is_listed_without_the_bit() {
 
 #[test]
 fn both_numbers_are_answered_alike() {
-    for built in [ticket(), data_trees(), listed(0), listed(1), listed(2)] {
+    let of = |edition| {
+        let methods = [0, 1, 2].map(|method| listed(edition, method));
+        [ticket(edition), data_trees(edition)]
+            .into_iter()
+            .chain(methods)
+    };
+    for built in Edition::BOTH.into_iter().flat_map(of) {
         let image = Image::new(&built.image);
         for block in blocks(&built) {
             let other = BlockId(block.id.0 ^ 1);
@@ -40,7 +53,13 @@ fn both_numbers_are_answered_alike() {
 
 #[test]
 fn data_block_1_is_none() {
-    let built = data_one();
+    for edition in Edition::BOTH {
+        data_1_is_none(edition);
+    }
+}
+
+fn data_1_is_none(edition: Edition) {
+    let built = data_one(edition);
     let image = Image::new(&built.image);
     let stored: Vec<u64> = built.nodes.iter().map(|node| node.data).collect();
     assert_eq!(stored[..2], [0, 1]);
@@ -54,7 +73,8 @@ fn data_block_1_is_none() {
 
 #[test]
 fn each_block_is_listed_once() {
-    for built in [ticket(), data_trees(), data_one(), highest()] {
+    let of = |edition| [ticket, data_trees, data_one, highest].map(|build| build(edition));
+    for built in Edition::BOTH.into_iter().flat_map(of) {
         let listed: Vec<u64> = blocks(&built).iter().map(|block| block.id.0).collect();
         let mut placed = built.block_numbers();
         placed.sort_unstable();
@@ -64,7 +84,8 @@ fn each_block_is_listed_once() {
 
 #[test]
 fn two_entries_that_differ_in_the_bit_alone_are_equal() {
-    let built = twins();
-    let refusal = Image::new(&built.image).check_blocks().unwrap_err();
-    assert_eq!(refusal.fault, Fault::KeyOrder);
+    for built in Edition::BOTH.map(twins) {
+        let refusal = Image::new(&built.image).check_blocks().unwrap_err();
+        assert_eq!(refusal.fault, Fault::KeyOrder);
+    }
 }

@@ -1,8 +1,10 @@
 //! Tables: what is answered is what was built, and what is refused is refused by the right number.
 
-use model::build::tables::{any_table, real_size, PlacedTable};
+use model::build::tables::{any_table, any_table_of, real_size, PlacedTable};
 use model::random::Random;
-use rekwonuda::{Cell, Column, Fault, Heap, ItemId, NodeId, Refusal, RowsPlace, Table, Tag};
+use rekwonuda::{
+    Cell, Column, Edition, Fault, Heap, ItemId, NodeId, Refusal, RowsPlace, Table, Tag,
+};
 
 const TABLES: u64 = 100;
 
@@ -114,6 +116,29 @@ fn rows_are_found_by_their_ids() {
     assert!(found > 1000, "{found}");
 }
 
+/// A row index is of one edition, and refused as one of the other.
+#[test]
+fn rows_are_found_by_their_edition() {
+    let mut found = 0;
+    for (seed, built) in (0..TABLES).flat_map(|seed| model::Edition::BOTH.map(|of| (seed, of))) {
+        let placed = any_table_of(built, &mut Random::new(seed));
+        let table = Table::new(&placed.block);
+        let (own, other) = match built {
+            model::Edition::Bits64 => (Edition::Bits64, Edition::Bits32),
+            model::Edition::Bits32 => (Edition::Bits32, Edition::Bits64),
+        };
+        for (id, row) in placed.row_index.iter().take(5) {
+            assert_eq!(table.find_row_in(own, *id), Ok(Some(*row)));
+            found += 1;
+        }
+        let refusal = table.find_row_in(other, 0).unwrap_err();
+        assert_eq!(refusal.fault, Fault::TableShape);
+        assert_eq!(table.find_row32(0), table.find_row_in(Edition::Bits32, 0));
+        assert_eq!(table.find_row(0), table.find_row_in(Edition::Bits64, 0));
+    }
+    assert!(found > 100, "{found}");
+}
+
 #[test]
 fn the_count_of_rows_that_are_not_given_is_not_known() {
     let placed = real_size();
@@ -127,7 +152,8 @@ fn the_count_of_rows_that_are_not_given_is_not_known() {
     assert_eq!(table.cell(0, Tag::ROW_ID), Ok(None));
     assert_eq!(table.with_rows(&placed.rows).row_count(), Ok(Some(100)));
     assert_eq!(table.with_rows(&[]).row_count(), Ok(Some(0)));
-    let refusal = table.with_rows(&[0; 8_177]).row_count().unwrap_err();
+    assert!(table.with_rows(&[0; 8_180]).row_count().is_ok());
+    let refusal = table.with_rows(&[0; 8_181]).row_count().unwrap_err();
     assert_eq!(refusal.fault, Fault::TableShape);
     assert_eq!(table.columns().count(), 30);
 }
@@ -148,6 +174,7 @@ fn all_refuse(block: &[u8], fault: Fault) {
     assert_eq!(table.cell(0, NAME), Err(refusal));
     assert_eq!(table.row(0), Err(refusal));
     assert_eq!(table.find_row(0), Err(refusal));
+    assert_eq!(table.find_row32(0), Err(refusal));
 }
 
 #[test]

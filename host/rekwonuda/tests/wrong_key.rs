@@ -1,10 +1,11 @@
 //! The key that a refusal by a key names, the key before it, and the range of its page.
 
 use model::build::seal::{seal_header, seal_page};
-use model::build::{build, build_small, build_small_loose, Built, PlacedPage, Plan};
+use model::build::{build, build_small_of, Built, PlacedPage, Plan};
 use model::damage::{spoil, spoil_again, Spoilt, HEADER, KEYS, PAGE, WHOLE};
 use model::page::Tree;
 use model::random::Random;
+use model::Edition;
 use rekwonuda::{BlockId, Fault, Image, Key, NodeId, Refusal, WrongKey, WrongKeys};
 
 /// Pages of samples/office.pst. Each tree is a root with some leaves, of which these are the first and
@@ -304,12 +305,15 @@ fn hold_damages(built: &Built, seed: u64) -> (usize, usize) {
 
 #[test]
 fn a_refusal_by_a_key_is_told_on_damaged_images() {
+    for edition in Edition::BOTH {
+        told_on_damaged_images(edition);
+    }
+}
+
+fn told_on_damaged_images(edition: Edition) {
     let (mut keys, mut lookups) = (0, 0);
     for seed in 0..40 {
-        let built = match seed % 2 {
-            0 => build_small(seed),
-            _ => build_small_loose(seed),
-        };
+        let built = build_small_of(edition, seed, seed % 2 == 1);
         let met = hold_damages(&built, seed);
         keys += met.0;
         lookups += met.1;

@@ -1,10 +1,10 @@
 //! The command line on every kind of damage: it says what the model finds, and always ends by itself.
 
 use crate::runs::{file, run, Run};
-use model::build::{build_small, Built};
-use model::damage::{spoil, Damage, BLOCK, END, HEADER, KEYS, PAGE, WHOLE};
+use model::build::{build_small_of, Built};
+use model::damage::{spoil, Damage, BLOCK, EDITION, END, HEADER, KEYS, PAGE, WHOLE};
 use model::random::Random;
-use model::Refusal;
+use model::{Edition, Refusal};
 use serde_json::Value;
 use std::collections::BTreeSet;
 use std::path::Path;
@@ -66,7 +66,7 @@ fn first_fault(image: &[u8]) -> Result<(), Refusal> {
 /// Another edition is not covered; all else that the damages here lead to is damage.
 fn status(image: &[u8], refusal: Refusal) -> i32 {
     let sum = || model::checksum(&image[8..479]).to_le_bytes();
-    let is_edition = || [14, 15, 36].contains(&u16::from_le_bytes([image[10], image[11]]));
+    let is_edition = || [36, 0] == image[10..12];
     if refusal.number == 3 && (is_edition() || image[4..8] == sum()) {
         4
     } else {
@@ -206,8 +206,8 @@ fn find_agrees(path: &Path, image: &[u8], nodes: &[u64]) {
 }
 
 fn goes_through(name: &str, kinds: &[Damage]) {
-    for seed in 0..SEEDS {
-        let built = build_small(seed);
+    for (seed, edition) in (0..SEEDS).flat_map(|seed| Edition::BOTH.map(|of| (seed, of))) {
+        let built = build_small_of(edition, seed, false);
         for (at, kind) in kinds.iter().enumerate() {
             for sealed in [false, true] {
                 let mut random = Random::new(seed + at as u64);
@@ -248,6 +248,11 @@ fn blocks() {
 #[test]
 fn whole_files() {
     goes_through("damaged_whole", WHOLE);
+}
+
+#[test]
+fn editions() {
+    goes_through("damaged_edition", EDITION);
 }
 
 #[test]

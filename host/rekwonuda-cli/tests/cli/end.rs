@@ -55,15 +55,13 @@ fn info_tells_the_end_and_what_hangs_on() {
         assert_eq!(answer["hanging"], hanging);
         assert_eq!(answer["status"], text.status);
     };
-    let words =
-        "size 49,152 bytes end 0xc000 (49,152), by the header; nothing hangs on behind method";
+    let words = "end 0xc000 (49,152), by the header; nothing hangs on behind method";
     told("end_info.pst", &office_bytes(), words, SIZE, 0);
-    let words =
-        "size 49,153 bytes end 0xc000 (49,152), by the header; 1 byte hangs on behind method";
+    let words = "end 0xc000 (49,152), by the header; 1 byte hangs on behind method";
     told("end_info_1.pst", &office_and(&[0]), words, SIZE, 1);
-    let words = "size 53,248 bytes end 0xc000 (49,152), by the header; 4,096 bytes hang on behind";
+    let words = "end 0xc000 (49,152), by the header; 4,096 bytes hang on behind";
     told("end_info_2.pst", &office_and(&[7; 4096]), words, SIZE, 4096);
-    let words = "size 49,152 bytes end 0x0 (0), by the header; 48,588 bytes hang on behind";
+    let words = "end 0x0 (0), by the header; 48,588 bytes hang on behind";
     told(
         "end_info_3.pst",
         &ending(office_bytes(), 0),

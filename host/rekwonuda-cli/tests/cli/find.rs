@@ -155,10 +155,10 @@ fn a_refused_header_stands_in_each_line() {
 
 #[test]
 fn what_is_not_covered_has_status_4_as_in_every_command() {
-    let old = file("find_old.pst", &sealed(10, 14));
+    let other = file("find_other.pst", &sealed(10, 36));
     let long = file("find_long.pst", b"");
     File::create(&long).unwrap().set_len((1 << 30) + 1).unwrap();
-    for (path, number) in [(&old, 3), (&long, 1)] {
+    for (path, number) in [(&other, 3), (&long, 1)] {
         let (text, answer) = find(path, &["0x21", "1"]);
         assert_eq!(
             (text.status, &answer["outcome"]),

@@ -1,5 +1,6 @@
 //! What `--json` writes is what docs/JSON.md says: its tables, and its examples.
 
+use crate::editions::{with_folders, DRAFTS};
 use crate::images::{sample, sound};
 use crate::made::{bytes, hierarchy, table, Made, NAME};
 use crate::page::{self, Shapes};
@@ -64,6 +65,7 @@ fn answers_have_the_shape_of_the_page() {
         let path = file(&format!("json_key_{at}.pst"), &image);
         hold_commands(&shapes, &path, &[0x21, 0x0020_0284]);
     }
+    hold_texts(&shapes);
     hold_failures(&shapes);
     hold_names(&shapes);
     shapes.all_were_met();
@@ -109,6 +111,20 @@ fn odd_folders() -> PathBuf {
         &bytes(&table(&[NAME, 0x360A_000B, 0x0E06_0040], &odd)),
     );
     file("json_folders.pst", &made.image())
+}
+
+/// A 32-bit file with 8-bit text, without a code page and with one.
+fn hold_texts(shapes: &Shapes) {
+    let path = with_folders("json_old.pst", &[DRAFTS]);
+    hold_commands(shapes, &path, &[0x122, 0x12D]);
+    for (command, rest) in [
+        ("folders", &[][..]),
+        ("props", &["0x122"]),
+        ("table", &["0x12d"]),
+    ] {
+        let words = [command, "--json", "--code-page", "1252"];
+        shapes.hold_run(&run(&words, &path, rest));
+    }
 }
 
 fn hold_failures(shapes: &Shapes) {

@@ -6,6 +6,7 @@ use crate::runs::{file, run};
 use model::build::bit_0::data_one;
 use model::build::{build, Plan};
 use model::page::Tree;
+use model::Edition;
 
 #[test]
 fn info_tells_the_counts() {
@@ -43,7 +44,7 @@ fn nodes_lists_every_node() {
 
 #[test]
 fn data_block_1_is_listed_as_none() {
-    let built = data_one();
+    let built = data_one(Edition::Bits64);
     assert_eq!(built.nodes[1].data, 1);
     let path = file("data_one.pst", &built.image);
     let answer = run(&["nodes", "--json"], &path, &[]).json();

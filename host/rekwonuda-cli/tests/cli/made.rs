@@ -3,9 +3,11 @@
 use model::build::heaps::{given_properties, Given};
 use model::build::seal::{seal_block, seal_header, seal_page};
 use model::build::tables::{
-    place_table, usual_layout, GivenCell, GivenTable, RowsPlace, ROW_ID, ROW_VERSION,
+    place_table_of, usual_layout, GivenCell, GivenTable, RowsPlace, ROW_ID, ROW_VERSION,
 };
+use model::page::Tree;
 use model::random::Random;
+use model::{Edition, Reference};
 use std::collections::BTreeMap;
 
 pub const NAME: u32 = 0x3001_001F;
@@ -16,12 +18,9 @@ pub const ROOT: u32 = 0x122;
 
 const PAGE: usize = 512;
 
-/// The kinds of pages.
-const BLOCKS: u8 = 0x80;
-const NODES: u8 = 0x81;
-
 /// A sound file in the making, whose blocks are not encoded.
 pub struct Made {
+    edition: Edition,
     image: Vec<u8>,
     /// The entries of the two trees, by their keys.
     blocks: BTreeMap<u64, Vec<u8>>,
@@ -30,9 +29,21 @@ pub struct Made {
 }
 
 impl Made {
+    /// A 64-bit file.
     pub fn new() -> Made {
+        Made::of(Edition::Bits64)
+    }
+
+    pub fn of(edition: Edition) -> Made {
+        let mut image = vec![0; 0x4400];
+        image[..10].copy_from_slice(b"!BDN\0\0\0\0SM");
+        image[10] = match edition {
+            Edition::Bits64 => 23,
+            Edition::Bits32 => 14,
+        };
         Made {
-            image: vec![0; 0x4400],
+            edition,
+            image,
             blocks: BTreeMap::new(),
             nodes: BTreeMap::new(),
             pages: 0,
@@ -51,27 +62,36 @@ impl Made {
         let mut root = vec![1, 1];
         root.extend((children.len() as u16).to_le_bytes());
         root.extend((length as u32).to_le_bytes());
-        root.extend(children.iter().flat_map(|child| child.to_le_bytes()));
+        root.extend(self.fields(&children));
         self.place(&root, 4 * (self.blocks.len() as u64 + 1) + 2)
     }
 
     fn place(&mut self, data: &[u8], number: u64) -> u64 {
+        let layout = self.edition.layout();
         let (offset, size) = (self.image.len(), data.len() as u16);
-        let room = model::room(u32::from(size)) as usize;
+        let room = layout.room(u32::from(size)) as usize;
         self.image.extend(data);
         self.image.resize(offset + room, 0);
         seal_block(&mut self.image, offset, size, number);
-        let mut entry = [number.to_le_bytes(), (offset as u64).to_le_bytes()].concat();
+        let mut entry = self.fields(&[number, offset as u64]);
         entry.extend(size.to_le_bytes());
-        entry.resize(24, 0);
+        entry.resize(layout.block_leaf.size, 0);
         self.blocks.insert(number, entry);
         number
     }
 
+    /// The numbers one behind the other, in the width that they have in the file.
+    fn fields(&self, numbers: &[u64]) -> Vec<u8> {
+        let width = self.edition.layout().width;
+        let field = |number: &u64| number.to_le_bytes()[..width].to_vec();
+        numbers.iter().flat_map(field).collect()
+    }
+
     /// Lists a node with that data block.
     pub fn list(&mut self, node: u32, data: u64) {
-        let entry = [u64::from(node), data, 0, 0].map(u64::to_le_bytes);
-        self.nodes.insert(node.into(), entry.concat());
+        let mut entry = self.fields(&[node.into(), data]);
+        entry.resize(self.edition.layout().node_leaf.size, 0);
+        self.nodes.insert(node.into(), entry);
     }
 
     /// A node with this data in one block.
@@ -101,62 +121,67 @@ impl Made {
     pub fn image(mut self) -> Vec<u8> {
         let blocks = std::mem::take(&mut self.blocks);
         let nodes = std::mem::take(&mut self.nodes);
-        let blocks = self.grow(blocks, BLOCKS, 20);
-        let nodes = self.grow(nodes, NODES, 15);
+        let blocks = self.grow(blocks, Tree::Blocks);
+        let nodes = self.grow(nodes, Tree::Nodes);
+        let layout = self.edition.layout();
         let mut image = self.image;
-        image[..12].copy_from_slice(b"!BDN\0\0\0\0SM\x17\0");
         let end = image.len() as u64;
-        image[184..192].copy_from_slice(&end.to_le_bytes());
-        image[216..232].copy_from_slice(&nodes);
-        image[232..248].copy_from_slice(&blocks);
-        image[512] = 0x80;
+        layout.put_number(&mut image, layout.header.end, end);
+        layout.put_reference(&mut image, layout.header.nodes, nodes);
+        layout.put_reference(&mut image, layout.header.blocks, blocks);
+        image[layout.header.sentinel] = 0x80;
         seal_header(&mut image);
         image
     }
 
-    /// Pages over the entries, level by level; answers the number and offset of the root page.
-    fn grow(&mut self, entries: BTreeMap<u64, Vec<u8>>, kind: u8, most: usize) -> [u8; 16] {
+    /// Pages over the entries, level by level; answers the root page.
+    fn grow(&mut self, entries: BTreeMap<u64, Vec<u8>>, tree: Tree) -> Reference {
         let mut entries: Vec<(u64, Vec<u8>)> = entries.into_iter().collect();
         if entries.is_empty() {
-            return self.page(&[], kind, 0, most);
+            return self.page(&[], tree, 0);
         }
         let mut level = 0;
         loop {
-            let most = if level == 0 { most } else { 20 };
+            let most = self.edition.layout().entries(tree, level).most;
             let pages: Vec<_> = entries
                 .chunks(most)
-                .map(|part| (part[0].0, self.page(part, kind, level, most)))
+                .map(|part| (part[0].0, self.page(part, tree, level)))
                 .collect();
             if let [(_, root)] = pages.as_slice() {
                 return *root;
             }
-            let index = |(key, page): &(u64, [u8; 16])| {
-                (*key, [key.to_le_bytes().as_slice(), page].concat())
+            let index = |(key, page): &(u64, Reference)| {
+                (*key, self.fields(&[*key, page.number, page.offset]))
             };
             entries = pages.iter().map(index).collect();
             level += 1;
         }
     }
 
-    fn page(&mut self, entries: &[(u64, Vec<u8>)], kind: u8, level: u8, most: usize) -> [u8; 16] {
-        let offset = self.image.len();
-        let size = if kind == NODES && level == 0 { 32 } else { 24 };
+    fn page(&mut self, entries: &[(u64, Vec<u8>)], tree: Tree, level: u8) -> Reference {
+        let layout = self.edition.layout();
+        let (offset, shape) = (self.image.len(), layout.entries(tree, level));
         let mut page: Vec<u8> = entries
             .iter()
             .flat_map(|(_, entry)| entry.clone())
             .collect();
         page.resize(PAGE, 0);
-        page[488..492].copy_from_slice(&[entries.len() as u8, most as u8, size, level]);
-        page[496..498].copy_from_slice(&[kind; 2]);
+        let counts = [
+            entries.len() as u8,
+            shape.most as u8,
+            shape.size as u8,
+            level,
+        ];
+        page[layout.page.counts..][..4].copy_from_slice(&counts);
+        page[layout.page.kinds..][..2].fill(tree.kind());
         self.pages += 1;
-        page[504..].copy_from_slice(&self.pages.to_le_bytes());
+        layout.put_number(&mut page, layout.page.number, self.pages);
         self.image.extend(page);
         seal_page(&mut self.image, offset);
-        let fields = [self.pages, offset as u64].map(u64::to_le_bytes);
-        fields
-            .concat()
-            .try_into()
-            .expect("two fields of eight bytes")
+        Reference {
+            number: self.pages,
+            offset: offset as u64,
+        }
     }
 }
 
@@ -204,9 +229,13 @@ pub fn table(tags: &[u32], rows: &[(u32, Vec<GivenCell>)]) -> GivenTable {
     }
 }
 
-/// The block of a table.
+/// The block of a table in a 64-bit file.
 pub fn bytes(given: &GivenTable) -> Vec<u8> {
-    place_table(&mut Random::new(1), given).block
+    bytes_of(Edition::Bits64, given)
+}
+
+pub fn bytes_of(edition: Edition, given: &GivenTable) -> Vec<u8> {
+    place_table_of(edition, &mut Random::new(1), given).block
 }
 
 /// A hierarchy table with these folders, each said to have two messages, one of them unread.

@@ -2,6 +2,7 @@
 
 mod check;
 mod damaged;
+mod editions;
 mod end;
 mod find;
 mod folders;

@@ -15,7 +15,7 @@ fn mixed(name: &str) -> PathBuf {
     fs::copy(office(), top.join("a.pst")).unwrap();
     fs::copy(office(), deep.join("B.PST")).unwrap();
     fs::write(deep.join("bad.Pst"), flipped(100)).unwrap();
-    fs::write(deep.join("old.pst"), sealed(10, 14)).unwrap();
+    fs::write(deep.join("other.pst"), sealed(10, 36)).unwrap();
     fs::write(deep.join("note.txt"), "no mail").unwrap();
     File::create(top.join("long.pst"))
         .unwrap()
@@ -51,7 +51,7 @@ fn folders_are_searched_and_every_file_is_told() {
         "accepted     ./a.pst",
         "accepted     ./deep/deeper.pst/B.PST",
         "damaged      ./deep/deeper.pst/bad.Pst: 0x4 (4): the header's checksum",
-        "not covered  ./deep/deeper.pst/old.pst: 0xa (10): the header, its version: 14",
+        "not covered  ./deep/deeper.pst/other.pst: 0xa (10): the header, its version: 36",
         "not covered  ./long.pst: the whole file: 1,073,741,825 bytes",
         "unreadable   ./dangling.pst: No such file or directory",
         "unreadable   ./pipe.pst: it is no plain file",
@@ -88,15 +88,15 @@ fn each_file_is_an_object_on_a_line() {
 fn the_worst_file_decides_the_exit_status() {
     let good = office();
     let bad = file("many_bad.pst", &flipped(100));
-    let old = file("many_old.pst", &sealed(10, 14));
+    let other = file("many_other.pst", &sealed(10, 36));
     let empty = folder("many_empty");
     let none = Path::new("no/such.pst").to_path_buf();
     let cases: [(&[&PathBuf], i32); 6] = [
         (&[&good, &good], 0),
         (&[&good, &empty], 3),
-        (&[&empty, &old], 4),
-        (&[&old, &bad, &good], 1),
-        (&[&none, &bad, &old], 2),
+        (&[&empty, &other], 4),
+        (&[&other, &bad, &good], 1),
+        (&[&none, &bad, &other], 2),
         (&[&empty], 3),
     ];
     for (paths, status) in cases {

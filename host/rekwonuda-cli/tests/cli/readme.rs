@@ -28,6 +28,15 @@ fn readme_shows_what_is_printed() {
         (run.status, run.text.as_str()),
         (0, folders.trim_start_matches('\n'))
     );
+    let [script, old] = blocks_behind(
+        &page,
+        "The same mail in a file of the older 32-bit edition:",
+    );
+    let run = run_in(&folder, script.strip_prefix("sh\n").unwrap());
+    assert_eq!(
+        (run.status, run.text.as_str()),
+        (0, old.trim_start_matches('\n'))
+    );
     let [script, damaged] = blocks_behind(&page, "A damaged file:");
     let run = run_in(&folder, script.strip_prefix("sh\n").unwrap());
     assert_eq!(

@@ -1,6 +1,7 @@
 //! The images that the tests run on.
 
 use model::build::{build, Built, Plan};
+use model::Edition;
 use std::path::PathBuf;
 
 pub fn sample() -> PathBuf {
@@ -10,9 +11,15 @@ pub fn sample() -> PathBuf {
     ))
 }
 
-/// An image with nodes and blocks of all kinds, in trees of several pages.
+/// A 64-bit image with nodes and blocks of all kinds, in trees of several pages.
 pub fn sound() -> Built {
+    sound_of(Edition::Bits64)
+}
+
+/// Such an image of that edition.
+pub fn sound_of(edition: Edition) -> Built {
     let plan = Plan {
+        edition,
         method: 2,
         node_level: 2,
         block_level: 1,
