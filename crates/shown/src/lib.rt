@@ -8,7 +8,7 @@ use refusal::Verdict;
 use tree::Listed;
 use tree::Node;
 
-// What is found, without the line's end.
+// Answers without the line's end: what a header says, an entry that is found, and that none is.
 pub fn say_header(header: Header) {
     let nodes = header.nodes;
     let blocks = header.blocks;

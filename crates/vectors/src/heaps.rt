@@ -93,7 +93,7 @@ fn store_items(block: &[u8]) {
     item_lines(block, 0xE0);
     item_lines(block, 0x100);
     item_lines(block, 0x120);
-    item_lines(block, 1);
+    item_lines(block, 0);
 }
 
 // 3.10: eleven properties, and an id that none has.
@@ -109,7 +109,7 @@ fn store_properties(block: &[u8]) {
     property_line(b"3.10", block, 0x6633);
     property_line(b"3.10", block, 0x66FA);
     property_line(b"3.10", block, 0x67FF);
-    property_line(b"3.10", block, 0x3003);
+    property_line(b"3.10", block, 0x3002);
 }
 
 fn store(block: &[u8]) {
@@ -129,7 +129,7 @@ fn table(block: &[u8]) {
     test_line(b"3.11", block, 0xC0);
     test_line(b"3.11", block, 0xE0);
     test_line(b"3.11", block, 0x100);
-    property_line(b"3.11", block, 0x3003);
+    property_line(b"3.11", block, 0x3001);
 }
 
 pub fn store_heap() {

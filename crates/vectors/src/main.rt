@@ -12,7 +12,7 @@ ghost use lib.ListN.{length};
 fn say_call(section: &[u8], call: &[u8], method: u8, block: u64, bytes: &[u8]) {
     said::say(section);
     said::say_decimal(call, method as u64);
-    said::say(b" blocks ");
+    said::say(b" block ");
     io::print_hex(STDOUT_FILENO, block, 8);
     said::say(b" bytes ");
     listed::say_bytes(bytes);
@@ -51,7 +51,7 @@ fn cyclic_line(letters: &[u8], from: usize) -> usize
     let n = first.size;
     let m = second.size;
     let mut work = plain;
-    encode(b"5.9", 2, block, &mut work[..n], &coded[..m]);
+    encode(b"5.2", 2, block, &mut work[..n], &coded[..m]);
     let mut back = coded;
     decode(b"5.2", 2, block, &mut back[..m], &plain[..n]);
     second.end
@@ -71,7 +71,7 @@ fn permute_line(letters: &[u8], from: usize)
     let m = second.size;
     let k = third.size;
     let mut work = plain;
-    encode(b"5.9", 1, 0, &mut work[..n], &by_r[..m]);
+    encode(b"5.1", 1, 0, &mut work[..n], &by_r[..m]);
     let mut back = plain;
     decode(b"5.1", 1, 0, &mut back[..n], &by_i[..k]);
 }

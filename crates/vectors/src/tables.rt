@@ -5,7 +5,7 @@ ghost use lib.ListN.{length};
 // The entry of a byte in a table, the tables counted from 0.
 fn entry(table: u64, byte: u8) -> u32 {
     match table {
-        9 => tables32::offset32(byte),
+        0 => tables32::offset32(byte),
         1 => tables32::offset40(byte),
         2 => tables48::offset48(byte),
         3 => tables48::offset56(byte),
@@ -42,7 +42,7 @@ fn table_line(letters: &[u8], from: usize, table: u64) -> usize
         byte += 1;
     }
     said::say_decimal(b"5.3 CrcTableOffset", 32 + 8 * table);
-    said::say_decimal(b": numbers that cannot be read: ", numbers);
+    said::say_decimal(b": numbers that can be read: ", numbers);
     listed::say_whether(right);
     at
 }

@@ -1,4 +1,4 @@
-use mathlib.Core.Path.{sym, ap, subst, _∙_}
+use mathlib.Core.Path.{_≡_, sym, ap, subst, _∙_}
 use Rattle.edition.specs.declared.Layout.{Layout}
 use Rattle.edition.specs.Fair.{FairLayout}
 use Rattle.header.proofs.EditionLaws.{fair-blocks}
@@ -13,7 +13,9 @@ returns : tie.Need-returns
 unfolding blockOutcome
 returns c =
     let a = c .before .before .before .args in
-    ap blockMeans (c .find-block .ensures ∙ ap (λ (l : Layout). blockOf l (a .image .now) (a .block)) (c .before .blocks-of .ensures))
+    let l = c .before .blocks-of .result in
+    let answer : c .find-block .result ≡ blockOf l (a .image .now) (a .block) = c .find-block .ensures in
+    ap blockMeans (answer ∙ ap (λ (l : Layout). blockOf l (a .image .now) (a .block)) (c .before .blocks-of .ensures))
 
 pub find-block-spec : {M : Type 1} → statement M
 find-block-spec = tie.close (tie.spec (λ c κs. search needs) (λ c κs. subst FairLayout (sym (c .blocks-of .ensures)) (fair-blocks _)) returns)

@@ -1,4 +1,4 @@
-use mathlib.Core.Path.{sym, ap, subst, _∙_}
+use mathlib.Core.Path.{_≡_, sym, ap, subst, _∙_}
 use lib.ListN.{length}
 use Rattle.edition.specs.declared.Edition.{Edition}
 use Rattle.edition.specs.Fair.{FairEdition}
@@ -18,7 +18,9 @@ returns c =
     let a = chosen .before .before .before .args in
     let done = called .read-node .ensures in
     let choice = chosen .edition-of .ensures in
-    (ap dataMeans (done .0 ∙ ap (λ (e : Edition). answerTo (nodeContent e (a .image .now) (a .node)) (length (a .out .now))) choice), done .1 ∙ ap (λ (e : Edition). filledBy (nodeContent e (a .image .now) (a .node)) (a .out .now)) choice)
+    let e = chosen .edition-of .result in
+    let answer : called .read-node .result ≡ answerTo (nodeContent e (a .image .now) (a .node)) (length (a .out .now)) = done .0 in
+    (ap dataMeans (answer ∙ ap (λ (e : Edition). answerTo (nodeContent e (a .image .now) (a .node)) (length (a .out .now))) choice), done .1 ∙ ap (λ (e : Edition). filledBy (nodeContent e (a .image .now) (a .node)) (a .out .now)) choice)
 
 pub read-node-spec : {M : Type 1} → statement M
 read-node-spec = tie.close (tie.spec (λ c κs. search needs) (λ c κs. subst FairEdition (sym (c .before .edition-of .ensures)) (fair-edition _)) (λ c. search needs) returns)

@@ -1,4 +1,4 @@
-use mathlib.Core.Path.{sym, ap, subst, _∙_}
+use mathlib.Core.Path.{_≡_, sym, ap, subst, _∙_}
 use Rattle.edition.specs.declared.Edition.{Edition}
 use Rattle.edition.specs.Fair.{FairEdition}
 use Rattle.header.proofs.EditionLaws.{fair-edition}
@@ -13,7 +13,9 @@ returns : tie.Need-returns
 unfolding testOutcome
 returns c =
     let a = c .before .before .before .args in
-    ap sizedMeans (c .test-block .ensures ∙ ap (λ (e : Edition). testOf e (a .image .now) (a .block)) (c .before .edition-of .ensures))
+    let e = c .before .edition-of .result in
+    let answer : c .test-block .result ≡ testOf e (a .image .now) (a .block) = c .test-block .ensures in
+    ap sizedMeans (answer ∙ ap (λ (e : Edition). testOf e (a .image .now) (a .block)) (c .before .edition-of .ensures))
 
 pub test-block-spec : {M : Type 1} → statement M
 test-block-spec = tie.close (tie.spec (λ c κs. search needs) (λ c κs. subst FairEdition (sym (c .edition-of .ensures)) (fair-edition _)) returns)
