@@ -99,7 +99,13 @@ pub fn cases() -> Vec<Case> {
 /// linked.
 #[cfg(former)]
 pub fn former_cases() -> Vec<Case> {
-    of_64_bits([&PROVED, &former::FORMER])
+    let cases = of_64_bits([&PROVED, &former::FORMER]).into_iter();
+    let two_sides = cases.map(|case| Case {
+        singles: None,
+        one_table: None,
+        ..case
+    });
+    two_sides.collect()
 }
 
 /// The library as it is beside the library as it was, on what both read; none where no former archive is

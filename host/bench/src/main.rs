@@ -8,34 +8,49 @@
 //! between which ratios the middle half of the rounds lay. All tables are of the same rounds.
 //!
 //! `ratios --former [WORD]` times the proved library beside a former one instead, whose archive the
-//! environment variable `REKWONUDA_FORMER_ARCHIVE` named when this was built.
+//! environment variable `REKWONUDA_FORMER_ARCHIVE` named when this was built. What is sought there is small,
+//! so that rounds are shorter than the turns in which a machine shares its processors, and more of them.
 
 use bench::{cases, former_cases, Case, Timed};
 use std::env;
 use std::hint::black_box;
 use std::time::{Duration, Instant};
 
-const ROUNDS: usize = 61;
-const ROUND: Duration = Duration::from_millis(5);
+/// How many rounds each call has, and how long its turn in a round is at least.
+#[derive(Clone, Copy)]
+struct Pace {
+    rounds: usize,
+    turn: Duration,
+}
+
+const USUAL: Pace = Pace {
+    rounds: 61,
+    turn: Duration::from_millis(5),
+};
+
+const SHORT: Pace = Pace {
+    rounds: 601,
+    turn: Duration::from_micros(500),
+};
 
 fn main() {
     let mut words = env::args().skip(1).peekable();
     let former = words.next_if(|word| word == "--former").is_some();
     let word = words.next().unwrap_or_default();
     if former {
-        print_all(former_cases(), &word, ("now", "before"));
+        print_all(former_cases(), &word, ("now", "before"), SHORT);
     } else {
-        print_all(cases(), &word, ("proved", "model")).print();
+        print_all(cases(), &word, ("proved", "model"), USUAL).print();
     }
 }
 
 /// Prints the table of both sides, and answers the rows of those behind it.
-fn print_all(cases: Vec<Case>, word: &str, (left, right): (&str, &str)) -> Further {
+fn print_all(cases: Vec<Case>, word: &str, (left, right): (&str, &str), pace: Pace) -> Further {
     let mut further = Further::default();
     print_head(left, &[right]);
     for mut case in cases {
         if case.call.contains(word) {
-            let times = measure(&mut case);
+            let times = measure(&mut case, pace);
             println!("{}", row(&case, &times.left, &[&times.right]));
             further.add(&case, &times);
         }
@@ -97,18 +112,18 @@ fn print_head(left: &str, others: &[&str]) {
 /// Beside the left one's time, each other one's time and what the left one's is to it.
 fn row(case: &Case, left: &[f64], others: &[&[f64]]) -> String {
     let columns: String = others.iter().map(|right| beside(left, right)).collect();
-    let time = sorted(left.iter().copied())[ROUNDS / 2];
+    let time = sorted(left.iter().copied())[left.len() / 2];
     format!("| `{}` | {} | {time:.0} |{columns}", case.call, case.input)
 }
 
 fn beside(left: &[f64], right: &[f64]) -> String {
-    let time = sorted(right.iter().copied())[ROUNDS / 2];
+    let time = sorted(right.iter().copied())[right.len() / 2];
     let ratios = sorted(left.iter().zip(right).map(|(left, right)| left / right));
     format!(
         " {time:.0} | {:.2} | {:.2} to {:.2} |",
-        ratios[ROUNDS / 2],
-        ratios[ROUNDS / 4],
-        ratios[ROUNDS * 3 / 4],
+        ratios[ratios.len() / 2],
+        ratios[ratios.len() / 4],
+        ratios[ratios.len() * 3 / 4],
     )
 }
 
@@ -120,11 +135,11 @@ struct Times {
     one_table: Option<Vec<f64>>,
 }
 
-fn measure(case: &mut Case) -> Times {
+fn measure(case: &mut Case, pace: Pace) -> Times {
     let mut calls = vec![&mut case.left, &mut case.right];
     calls.extend(case.singles.as_mut());
     calls.extend(case.one_table.as_mut());
-    let mut times = alternate(&mut calls).into_iter();
+    let mut times = alternate(&mut calls, pace).into_iter();
     Times {
         left: times.next().unwrap_or_default(),
         right: times.next().unwrap_or_default(),
@@ -134,10 +149,11 @@ fn measure(case: &mut Case) -> Times {
 }
 
 /// The times of each call. In every round each has its turn.
-fn alternate(calls: &mut [&mut Timed]) -> Vec<Vec<f64>> {
-    let counts: Vec<u32> = calls.iter_mut().map(|call| repeats(call)).collect();
+fn alternate(calls: &mut [&mut Timed], pace: Pace) -> Vec<Vec<f64>> {
+    let counts = calls.iter_mut().map(|call| repeats(call, pace.turn));
+    let counts: Vec<u32> = counts.collect();
     let mut times = vec![Vec::new(); calls.len()];
-    for _ in 0..ROUNDS {
+    for _ in 0..pace.rounds {
         for ((call, count), times) in calls.iter_mut().zip(&counts).zip(&mut times) {
             times.push(time(call, *count));
         }
@@ -145,10 +161,10 @@ fn alternate(calls: &mut [&mut Timed]) -> Vec<Vec<f64>> {
     times
 }
 
-/// How many calls fill a round.
-fn repeats(call: &mut dyn FnMut() -> u64) -> u32 {
+/// How many calls fill a turn.
+fn repeats(call: &mut dyn FnMut() -> u64, turn: Duration) -> u32 {
     let mut count = 1;
-    while time(call, count) * f64::from(count) < ROUND.as_nanos() as f64 {
+    while time(call, count) * f64::from(count) < turn.as_nanos() as f64 {
         count *= 2;
     }
     count

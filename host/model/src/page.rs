@@ -67,6 +67,8 @@ pub struct Page<'a> {
     tree: Tree,
     place: u64,
     range: Range,
+    /// The bytes of an entry.
+    size: usize,
     pub level: u8,
     pub count: usize,
 }
@@ -98,6 +100,7 @@ impl<'a> Page<'a> {
             tree,
             place,
             range: sought.range,
+            size: layout.entries(tree, level).size,
             level,
             count: usize::from(count),
         })
@@ -126,16 +129,11 @@ impl<'a> Page<'a> {
     }
 
     pub fn entry(&self, at: usize) -> &'a [u8] {
-        let size = self.entry_size();
-        &self.bytes[at * size..(at + 1) * size]
-    }
-
-    fn entry_size(&self) -> usize {
-        self.layout.entries(self.tree, self.level).size
+        &self.bytes[at * self.size..(at + 1) * self.size]
     }
 
     pub fn key(&self, at: usize) -> u64 {
-        let stored = self.layout.number_at(self.bytes, at * self.entry_size());
+        let stored = self.layout.number_at(self.bytes, at * self.size);
         self.tree.key(stored)
     }
 
