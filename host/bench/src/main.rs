@@ -10,6 +10,8 @@
 //! `ratios --former [WORD]` times the proved library beside a former one instead, whose archive the
 //! environment variable `REKWONUDA_FORMER_ARCHIVE` named when this was built. What is sought there is small,
 //! so that rounds are shorter than the turns in which a machine shares its processors, and more of them.
+//! Where the code of a call comes to lie in the program moves the time of short calls by more than that;
+//! `objcopy --set-section-alignment '.text.*=64'` on copies of both archives takes this out.
 
 use bench::{cases, former_cases, Case, Timed};
 use std::env;
