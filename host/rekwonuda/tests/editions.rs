@@ -4,7 +4,7 @@ mod images;
 
 use images::{sample, sound, sound_of};
 use model::build::limits::{children, sizes};
-use model::build::seal::{seal_header, seal_header_as, set_end};
+use model::build::seal::{seal_header, set_end};
 use rekwonuda::{
     BlockId, Edition, Fault, Image, Node, NodeId, Refusal, LARGEST_BLOCK, LONGEST_DATA,
 };
@@ -26,7 +26,7 @@ fn refusal(fault: Fault, place: u64) -> Refusal {
 fn old_with(place: usize, byte: u8) -> Vec<u8> {
     let mut image = sound_of(model::Edition::Bits32).image;
     image[place] = byte;
-    seal_header_as(model::Edition::Bits32, &mut image);
+    model::Edition::Bits32.layout().seal_header(&mut image);
     image
 }
 

@@ -7,7 +7,7 @@ use crate::runs::{file, repository, run, words, Run};
 use crate::spoilt::{with_bytes, with_tree};
 use model::build::heaps::{given_properties, Given};
 use model::build::limits::sizes;
-use model::build::seal::{seal_header_as, seal_page, set_end};
+use model::build::seal::{seal_page, set_end};
 use model::build::tables::GivenCell;
 use model::build::Built;
 use model::page::Tree;
@@ -33,7 +33,7 @@ fn old() -> Built {
 fn old_with(place: usize, byte: u8) -> Vec<u8> {
     let mut image = old().image;
     image[place] = byte;
-    seal_header_as(OLD, &mut image);
+    OLD.layout().seal_header(&mut image);
     image
 }
 
@@ -287,7 +287,7 @@ fn a_file_with_the_version_of_the_other_edition_is_damaged() {
     let mut image = sound().image;
     image[10] = 14;
     refused("as_old.pst", &image, 1, 4, 4, &["bytes 8 to 478"]);
-    seal_header_as(OLD, &mut image);
+    OLD.layout().seal_header(&mut image);
     refused("as_old_sealed.pst", &image, 1, 5, 460, &["should be 80"]);
     let image = old_with(10, 23);
     refused("as_new.pst", &image, 1, 4, 524, &["bytes 8 to 523"]);
