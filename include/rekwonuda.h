@@ -39,8 +39,9 @@
  * entries of the block tree that differ only there are equal, which is refused with 11, and
  * rkw_find_block, rkw_test_block and rkw_read_block answer alike for two numbers that differ only
  * there; rkw_next_block takes the number that it is given with all its bits. The bit counts where a
- * number goes into a signature or a cyclic key, and in page numbers and node numbers. The blocks of a
- * 32-bit file have numbers under 2^32: a larger number that is asked for names none of them.
+ * number goes into a signature or a cyclic key, and in page numbers and node numbers. In a 32-bit file
+ * block numbers are stored in four bytes, and one that is asked for is compared whole: where
+ * rkw_check_blocks accepts, rkw_find_block answers absent for 2^32 and above.
  *
  * The header says where the file ends: its end-of-file number, eight bytes at 184, in a 32-bit file four
  * at 168, which rkw_header hands out as `end`. An image shorter than that is refused with 1 and that
