@@ -103,6 +103,55 @@
 extern "C" {
 #endif
 
+/* The version that this header belongs to: major times 10,000, minor times 100 and patch, added up.
+ * While major is 0, a struct may have other fields from one minor version to the next: a program that
+ * links the shared library compares RKW_VERSION with rkw_version() before it calls anything else. */
+#define RKW_VERSION 100
+#define RKW_VERSION_TEXT "0.1.0"
+
+/* The refusals by name. */
+enum rkw_refusal {
+    RKW_ANSWERED = 0,
+    RKW_REFUSED_IMAGE_LENGTH = 1,
+    RKW_REFUSED_MAGIC = 2,
+    RKW_REFUSED_VERSION = 3,
+    RKW_REFUSED_HEADER_CHECKSUM = 4,
+    RKW_REFUSED_ENCODING = 5,
+    RKW_REFUSED_PAGE_OFFSET = 6,
+    RKW_REFUSED_PAGE_KIND = 7,
+    RKW_REFUSED_PAGE_NUMBER = 8,
+    RKW_REFUSED_PAGE_CHECKSUM = 9,
+    RKW_REFUSED_PAGE_COUNTS = 10,
+    RKW_REFUSED_KEY_ORDER = 11,
+    RKW_REFUSED_BLOCK_UNLISTED = 12,
+    RKW_REFUSED_BLOCK_OFFSET = 13,
+    RKW_REFUSED_BLOCK_TRAILER = 14,
+    RKW_REFUSED_BLOCK_CHECKSUM = 15,
+    RKW_REFUSED_DATA_TREE = 16,
+    RKW_REFUSED_SHORT_BUFFER = 17,
+    RKW_REFUSED_HEAP_SHAPE = 18,
+    RKW_REFUSED_HEAP_ITEM = 19,
+    RKW_REFUSED_PROPERTY_TREE = 20,
+    RKW_REFUSED_KEY_RANGE = 21,
+    RKW_REFUSED_TABLE_SHAPE = 23
+};
+
+/* How block data is encoded: the `method` of a header, and of rkw_encode and rkw_decode. */
+enum rkw_method {
+    RKW_METHOD_NONE = 0,
+    RKW_METHOD_PERMUTE = 1,
+    RKW_METHOD_CYCLIC = 2
+};
+
+/* What a value is: the `kind` of a property and of a cell, and the `rows_kind` of a table. */
+enum rkw_kind {
+    RKW_KIND_NUMBER = 0,
+    RKW_KIND_EMPTY = 1,
+    RKW_KIND_ITEM = 2,
+    RKW_KIND_SUBNODE = 3,
+    RKW_KIND_MISSING = 4
+};
+
 /* Accepted or done (refusal 0), or refused. */
 struct rkw_answer {
     uint64_t refusal, place, more;
@@ -349,6 +398,18 @@ uint64_t rkw_signature(uint64_t offset, uint64_t number);
  * holds size + 16, and in a 32-bit file, by rkw_room32, size + 12. */
 uint64_t rkw_room(uint32_t size);
 uint64_t rkw_room32(uint32_t size);
+
+/* Two calls that are not proved: they are a small C file, host/c/words.c, beside the proved library in
+ * librkw.a and librkw.so as `make install` installs them. The archive that `rt staticlib rkw` writes is
+ * without them. */
+
+/* The version of the library, as RKW_VERSION counts it. */
+uint64_t rkw_version(void);
+
+/* Says in words what is wrong, by the number and the place of a refusal: one line of ASCII text, without
+ * a dot at its end, which is never null and is not to be freed. Of 0 it says that the call is answered,
+ * and of a number that is none of the refusals, that it has no name. */
+const char *rkw_refusal_words(uint64_t refusal, uint64_t place);
 
 #ifdef __cplusplus
 }

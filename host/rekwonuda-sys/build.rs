@@ -1,20 +1,25 @@
-//! Links the proved archive, `librkw.a`.
+//! Links the proved archive, `librkw.a`, and the C file with the two calls that are not proved.
 
 use std::env;
-use std::path::PathBuf;
-use std::process;
+use std::ffi::OsString;
+use std::path::{Path, PathBuf};
+use std::process::{self, Command};
 
 fn main() {
+    link_archive();
+    link_words();
+}
+
+fn link_archive() {
     let dir = archive_dir();
     let archive = dir.join("librkw.a");
     println!("cargo:rerun-if-env-changed=REKWONUDA_ARCHIVE_DIR");
     println!("cargo:rerun-if-changed={}", archive.display());
     if !archive.is_file() {
-        eprintln!(
+        fail(&format!(
             "{} is missing: run ./rekwonuda, or rt staticlib rkw",
             archive.display()
-        );
-        process::exit(1);
+        ));
     }
     println!("cargo:rustc-link-search=native={}", dir.display());
     println!("cargo:rustc-link-lib=static=rkw");
@@ -25,4 +30,37 @@ fn archive_dir() -> PathBuf {
         || PathBuf::from(env!("CARGO_MANIFEST_DIR")).join("../../target/staticlib"),
         PathBuf::from,
     )
+}
+
+fn link_words() {
+    let root = Path::new(env!("CARGO_MANIFEST_DIR")).join("../..");
+    let include = root.join("include");
+    let source = root.join("host/c/words.c");
+    for path in [&include.join("rekwonuda.h"), &source] {
+        println!("cargo:rerun-if-changed={}", path.display());
+    }
+    println!("cargo:rerun-if-env-changed=CC");
+    let out = PathBuf::from(env::var_os("OUT_DIR").unwrap_or_default());
+    let object = out.join("words.o");
+    let compiler = env::var_os("CC").unwrap_or_else(|| OsString::from("cc"));
+    let mut compile = Command::new(compiler);
+    compile.args(["-std=c11", "-O2", "-fPIC", "-c", "-o"]);
+    run(compile.arg(&object).arg("-I").arg(include).arg(source));
+    let mut pack = Command::new("ar");
+    run(pack.arg("crs").arg(out.join("librkw_words.a")).arg(object));
+    println!("cargo:rustc-link-search=native={}", out.display());
+    println!("cargo:rustc-link-lib=static=rkw_words");
+}
+
+fn run(command: &mut Command) {
+    match command.status() {
+        Ok(status) if status.success() => (),
+        Ok(status) => fail(&format!("{command:?}: {status}")),
+        Err(error) => fail(&format!("{command:?}: {error}")),
+    }
+}
+
+fn fail(why: &str) -> ! {
+    eprintln!("{why}");
+    process::exit(1);
 }

@@ -18,6 +18,8 @@
 
 mod answers;
 
+use std::ffi::{c_char, CStr};
+
 pub use answers::{
     Answer, Answered, BlockAnswer, CellAnswer, CellsAnswer, ColumnAnswer, CountAnswer, DataAnswer,
     HeaderAnswer, ItemAnswer, LengthAnswer, NodeAnswer, PropertyAnswer, RowAnswer, SizeAnswer,
@@ -92,6 +94,8 @@ extern "C" {
     fn rkw_signature(offset: u64, number: u64) -> u64;
     fn rkw_room(size: u32) -> u64;
     fn rkw_room32(size: u32) -> u64;
+    fn rkw_version() -> u64;
+    fn rkw_refusal_words(refusal: u64, place: u64) -> *const c_char;
 }
 
 /// Tests the header and says what stands in it. Refusals 1 to 5.
@@ -317,4 +321,26 @@ pub fn room(size: u32) -> u64 {
 pub fn room32(size: u32) -> u64 {
     // SAFETY: the call takes a number alone, and any will do.
     unsafe { rkw_room32(size) }
+}
+
+/// The version of the library: major times 10,000, minor times 100 and patch, added up. Not proved.
+#[must_use]
+pub fn version() -> u64 {
+    // SAFETY: the call takes nothing.
+    unsafe { rkw_version() }
+}
+
+/// Says in words what is wrong, by the number and the place of a refusal. Not proved.
+///
+/// ```
+/// assert_eq!(
+///     rekwonuda_sys::refusal_words(18, 0),
+///     "the shape of a heap is wrong"
+/// );
+/// ```
+#[must_use]
+pub fn refusal_words(refusal: u64, place: u64) -> &'static str {
+    // SAFETY: the call takes numbers, and answers a text that ends with a zero byte and is never freed.
+    let words = unsafe { CStr::from_ptr(rkw_refusal_words(refusal, place)) };
+    words.to_str().unwrap_or_default()
 }

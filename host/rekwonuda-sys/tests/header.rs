@@ -36,6 +36,7 @@ fn rust_type(in_c: &str) -> String {
         "uint8_t *" => "*mut u8".into(),
         "const uint64_t *" => "*const u64".into(),
         "uint64_t *" => "*mut u64".into(),
+        "const char *" => "*const c_char".into(),
         _ => match in_c.strip_prefix("struct rkw_") {
             Some(name) => name.split('_').map(capital).collect(),
             None => in_c.replace("uint", "u").replace("_t", ""),
@@ -58,8 +59,10 @@ fn rust_parameter(in_c: &str) -> String {
 fn rust_call(line: &str) -> Option<String> {
     let (before, behind) = line.split_once('(')?;
     let parameters = behind.strip_suffix(");")?;
-    let (answer, name) = before.rsplit_once(' ')?;
-    let parameters: Vec<_> = parameters.split(", ").map(rust_parameter).collect();
+    let name = before.rsplit([' ', '*']).next()?;
+    let answer = before.strip_suffix(name)?.trim_end();
+    let parameters = parameters.split(", ").filter(|name| *name != "void");
+    let parameters: Vec<_> = parameters.map(rust_parameter).collect();
     let parameters = parameters.join(", ");
     Some(format!("fn {name}({parameters}) -> {};", rust_type(answer)))
 }
@@ -95,4 +98,17 @@ fn structs_are_those_of_the_header() {
         .map(|(name, fields)| ((*name).to_string(), fields.iter().map(in_c).collect()))
         .collect();
     assert_eq!(found, declared);
+}
+
+#[test]
+fn versions_are_those_of_the_crates() {
+    let numbers = env!("CARGO_PKG_VERSION").split('.').map(str::parse::<u64>);
+    let version = numbers.fold(0, |sum, number| sum * 100 + number.expect("a number"));
+    assert_eq!(rekwonuda_sys::version(), version);
+    let number = format!("#define RKW_VERSION {version}\n");
+    let text = format!(
+        "#define RKW_VERSION_TEXT \"{}\"\n",
+        env!("CARGO_PKG_VERSION")
+    );
+    assert!(HEADER.contains(&number) && HEADER.contains(&text));
 }
