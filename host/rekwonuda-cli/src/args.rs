@@ -2,6 +2,7 @@ use crate::code_pages::CodePage;
 use crate::names::{is_standard, STANDARD};
 use clap::error::ErrorKind;
 use clap::{Args, CommandFactory, Parser, Subcommand};
+use clap_complete::Shell;
 use std::num::NonZeroUsize;
 use std::path::PathBuf;
 
@@ -45,9 +46,18 @@ pub struct Arguments {
     pub json: bool,
 
     #[command(subcommand)]
-    pub command: Command,
+    pub task: Task,
 }
 
+#[derive(Subcommand)]
+pub enum Task {
+    #[command(flatten)]
+    OfFile(Command),
+    /// Write a script that completes these commands in a shell to standard output
+    Completions(CompletionsArguments),
+}
+
+/// What is asked of a file, or of several.
 #[derive(Subcommand)]
 pub enum Command {
     /// Check a file, or every .pst file of a folder
@@ -199,6 +209,13 @@ pub struct FoldersArguments {
 }
 
 #[derive(Args)]
+pub struct CompletionsArguments {
+    /// The shell
+    #[arg(value_enum)]
+    pub shell: Shell,
+}
+
+#[derive(Args)]
 pub struct TextArguments {
     /// The code page of 8-bit text: 1250 to 1254, or 1257
     ///
@@ -213,10 +230,13 @@ pub struct TextArguments {
 impl Arguments {
     /// Whether arguments that are right one by one are right together.
     pub fn agree(self) -> Result<Self, clap::Error> {
-        let wrong = match &self.command {
-            Command::Find(find) => find.wrong_together(),
-            Command::Table(table) if table.csv && self.json => {
+        let wrong = match &self.task {
+            Task::OfFile(Command::Find(find)) => find.wrong_together(),
+            Task::OfFile(Command::Table(table)) if table.csv && self.json => {
                 Some("an answer is in CSV or in JSON, and both are asked for")
+            }
+            Task::Completions(_) if self.json => {
+                Some("completions are a script, and JSON is asked for")
             }
             _ => None,
         };

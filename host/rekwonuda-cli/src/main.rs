@@ -6,6 +6,7 @@ mod advice;
 mod args;
 mod check;
 mod code_pages;
+mod completions;
 mod contexts;
 mod ending;
 mod find;
@@ -37,7 +38,7 @@ mod walk;
 mod words;
 mod write;
 
-use args::{Arguments, Command};
+use args::{Arguments, Command, Task};
 use check::Way;
 use clap::Parser;
 use outcome::{Failure, Outcome};
@@ -49,20 +50,18 @@ use std::process::ExitCode;
 
 fn main() -> ExitCode {
     let outcome = match Arguments::try_parse().and_then(Arguments::agree) {
-        Ok(arguments) => answer(&arguments),
+        Ok(arguments) => match &arguments.task {
+            Task::OfFile(command) => answer(command, arguments.json),
+            Task::Completions(completions) => completions::write(completions.shell),
+        },
         Err(error) if error.use_stderr() => misused(&error),
         Err(help) => helped(&help),
     };
     ExitCode::from(outcome.status())
 }
 
-fn answer(arguments: &Arguments) -> Outcome {
-    let form = if arguments.json {
-        Form::Json
-    } else {
-        Form::Text
-    };
-    let command = &arguments.command;
+fn answer(command: &Command, json: bool) -> Outcome {
+    let form = if json { Form::Json } else { Form::Text };
     let path = match command {
         Command::Check(check) if many::is_many(check) => return many::check_many(check, form),
         Command::Check(check) => &check.paths[0],

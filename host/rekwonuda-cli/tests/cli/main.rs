@@ -1,6 +1,7 @@
 //! The command line on sound and on damaged files: its texts, its JSON and its exit status.
 
 mod check;
+mod completions;
 mod damaged;
 mod editions;
 mod end;
