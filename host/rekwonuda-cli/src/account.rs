@@ -72,6 +72,20 @@ impl Account {
         format!("{}. {meaning} (refusal {number})", self.lies_there)
     }
 
+    /// The number of the refusal.
+    pub fn number(&self) -> u64 {
+        self.refusal.number()
+    }
+
+    /// The offset that the refusal names; none of those whose place is always 0, and where the length
+    /// of the file is at fault by itself.
+    pub fn offset(&self) -> Option<u64> {
+        match (self.number(), self.refusal.place) {
+            (1, 0) | (12 | 17..=20 | 23, _) => None,
+            (_, place) => Some(place),
+        }
+    }
+
     /// What to do, as the last part of a list of several.
     pub fn advice(&self) -> String {
         format!("What to do:\n{}\n", indented(self.advice))

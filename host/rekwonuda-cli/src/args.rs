@@ -19,7 +19,8 @@ Exit status:
      another kind";
 
 const NOTES: &str = "\
-Every answer is given by a library that is proved to answer rightly for any bytes. \
+What is accepted or refused, found or absent, is decided by a library that is proved to answer rightly for any \
+bytes; what this program makes of its answers is tested, and not proved. \
 The file is read into memory and not mapped: a file that changes under a mapping is outside what is proved. \
 It may have up to 1 GiB. A FILE of - is standard input.
 
@@ -97,6 +98,14 @@ pub enum Command {
     /// in the contents tables; unread ones are as stated where the folder is listed. What cannot be read
     /// is marked with ! and named, and the rest is shown.
     Folders(FoldersArguments),
+    /// Draw the file from its first byte to its last: a picture (SVG) of what lies where
+    ///
+    /// It shows the header, the allocation maps, the pages of each tree, the listed blocks, free room, which
+    /// is zero, and stale room, which holds other bytes and is listed nowhere; it marks the refusal that
+    /// `check` tells. Where a tree is refused, room that is not listed is shown as unknown. The picture is
+    /// drawn also of a file that is damaged or not covered, and the exit status is that of `check`. It has
+    /// under 1,500,000 bytes, however large the file is.
+    Map(MapArguments),
 }
 
 #[derive(Args)]
@@ -154,11 +163,26 @@ pub struct NodeArguments {
     /// The number of the node, as 290 or 0x122
     #[arg(value_name = "NID", value_parser = node_number)]
     pub node: u32,
-    /// Write the data to this file; - is standard output
+    #[command(flatten)]
+    pub output: OutputArguments,
+}
+
+#[derive(Args)]
+#[command(after_long_help = STATUS)]
+pub struct MapArguments {
+    /// The .pst file, or - for standard input
+    pub file: PathBuf,
+    #[command(flatten)]
+    pub output: OutputArguments,
+}
+
+#[derive(Args)]
+pub struct OutputArguments {
+    /// Write to this file; - is standard output
     ///
-    /// It is written once all of the data is read and accepted: to a temporary file beside it, which
-    /// then takes its name. It is never the file that is read. Without it the data goes to standard
-    /// output, or a preview where that is a terminal.
+    /// It is written once all that goes into it is there: to a temporary file beside it, which then takes
+    /// its name. It is never the file that is read. Without it standard output is written to, and where
+    /// that is a terminal a preview is shown.
     #[arg(short, long, value_name = "OUT")]
     pub output: Option<PathBuf>,
     /// Replace OUT where it is there already
@@ -273,6 +297,7 @@ impl Command {
             Command::Props(_) => "props",
             Command::Table(_) => "table",
             Command::Folders(_) => "folders",
+            Command::Map(_) => "map",
         }
     }
 }

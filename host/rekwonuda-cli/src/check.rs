@@ -2,7 +2,7 @@ use crate::account::{Account, Spot};
 use crate::ending::{Ending, Remark};
 use crate::keys::Keys;
 use crate::outcome::{Failure, Outcome};
-use crate::output::Output;
+use crate::output::{Form, Output};
 use crate::progress;
 use crate::report::{Report, Stage, Tally, STAGES};
 use crate::source::Source;
@@ -13,6 +13,7 @@ use indicatif::ProgressBar;
 use rekwonuda::{Block, BlockId, Refusal};
 use serde_json::json;
 use std::collections::HashMap;
+use std::io;
 
 /// So many refused blocks are held at once, until the nodes that use them are found; and of so many
 /// data trees it is remembered what a read of them gave.
@@ -25,6 +26,16 @@ pub struct Way {
     pub all: bool,
     /// Whether to show how far it has come.
     pub progress: bool,
+}
+
+impl Way {
+    /// Of one file that a reader waits for.
+    pub fn through(source: &Source, all: bool, out: &Output<'_>) -> Way {
+        Way {
+            all,
+            progress: progress::is_worthwhile(source.size) && out.bears_progress(),
+        }
+    }
 }
 
 struct Check<'a, 'b> {
@@ -62,6 +73,12 @@ pub fn check(source: &Source, way: Way, out: &mut Output<'_>) -> Result<Report, 
     let report = Report::new(check.stages, check.decisive, check.remark);
     report.tell(way, out)?;
     Ok(report)
+}
+
+/// The same, and says nothing.
+pub fn silently(source: &Source, way: Way) -> Result<Report, Failure> {
+    let mut out = Output::new(Form::Silent, io::sink(), None)?;
+    check(source, way, &mut out)
 }
 
 impl Check<'_, '_> {

@@ -18,16 +18,21 @@ mod keys;
 mod list;
 mod listing;
 mod many;
+mod map;
 mod names;
 mod node;
 mod outcome;
 mod output;
+mod picture;
 mod place;
 mod progress;
 mod props;
+mod raster;
 mod report;
 mod search;
 mod source;
+mod stretches;
+mod svg;
 mod table;
 mod tags;
 mod tree;
@@ -71,6 +76,7 @@ fn answer(command: &Command, json: bool) -> Outcome {
         Command::Props(props) => &props.file,
         Command::Table(table) => &table.file,
         Command::Folders(folders) => &folders.file,
+        Command::Map(map) => &map.file,
     };
     let begun = Output::standard(form, Some(command.name())).and_then(|mut out| {
         out.name("file", path)?;
@@ -94,10 +100,7 @@ fn answer_from(path: &Path, command: &Command, mut out: Output<'_>) -> Outcome {
 fn run(command: &Command, source: &Source, out: &mut Output<'_>) -> Result<Outcome, Failure> {
     match command {
         Command::Check(arguments) => {
-            let way = Way {
-                all: arguments.all,
-                progress: progress::is_worthwhile(source.size) && out.bears_progress(),
-            };
+            let way = Way::through(source, arguments.all, out);
             check::check(source, way, out).map(|report| report.outcome)
         }
         Command::Info(_) => info::info(source, out),
@@ -108,6 +111,7 @@ fn run(command: &Command, source: &Source, out: &mut Output<'_>) -> Result<Outco
         Command::Props(arguments) => props::props(source, arguments, out),
         Command::Table(arguments) => table::table(source, arguments, out),
         Command::Folders(arguments) => folders::folders(source, arguments, out),
+        Command::Map(arguments) => map::map(source, arguments, out),
     }
 }
 

@@ -1,7 +1,7 @@
 //! A check of many files, some of them at once.
 
 use crate::args::CheckArguments;
-use crate::check::{check, Way};
+use crate::check::{check, silently, Way};
 use crate::names::is_standard;
 use crate::outcome::{Failure, Outcome};
 use crate::output::{Form, Output};
@@ -90,7 +90,7 @@ impl Line {
 
     fn text(path: &Path, source: Result<Source, Unread>, way: Way) -> Line {
         let (outcome, told) = match source {
-            Ok(source) => silently(&source, way),
+            Ok(source) => checked(&source, way),
             Err((outcome, why)) => (outcome, Some(why)),
         };
         let told = told.map_or(String::new(), |told| format!(": {told}"));
@@ -138,10 +138,8 @@ fn read(found: &Found) -> (&Path, Result<Source, Unread>) {
 }
 
 /// How the check of a file ends, and what is told of it.
-fn silently(source: &Source, way: Way) -> (Outcome, Option<String>) {
-    let report = Output::new(Form::Silent, io::sink(), None)
-        .and_then(|mut out| check(source, way, &mut out));
-    match report {
+fn checked(source: &Source, way: Way) -> (Outcome, Option<String>) {
+    match silently(source, way) {
         Ok(report) => (report.outcome, report.line(way)),
         Err(_) => (Outcome::Error, None),
     }

@@ -1,14 +1,11 @@
 use crate::account::Spot;
 use crate::args::NodeArguments;
-use crate::names;
 use crate::outcome::{At, Failure, Outcome};
 use crate::output::Output;
 use crate::source::Source;
 use crate::words::{counted, hex, spaced_hex};
-use crate::write::Target;
+use crate::write::Goal;
 use rekwonuda::{Node, NodeId};
-use std::io::{stdout, IsTerminal};
-use std::path::Path;
 
 const PREVIEW: usize = 256;
 
@@ -18,23 +15,15 @@ pub fn node(
     arguments: &NodeArguments,
     out: &mut Output<'_>,
 ) -> Result<Outcome, Failure> {
-    let output = arguments.output.as_deref();
-    let file = output.filter(|path| !names::is_standard(path));
-    let target = file
-        .map(|path| Target::new(path, source.identity(), arguments.force))
-        .transpose()?;
+    let goal = Goal::of(&arguments.output, source)?;
     out.fact("node", arguments.node)?;
     let (_, data) = read(source, arguments.node)?;
     out.fact("length", data.len())?;
-    if let (Some(path), Some(target)) = (file, target) {
-        target.write(&data)?;
-        told(path, &data, out)?;
-    } else if out.is_json() {
-        out.fact("data", hex(&data))?;
-    } else if output.is_none() && stdout().is_terminal() {
-        preview(&data, out)?;
-    } else {
-        out.bytes(&data)?;
+    match goal {
+        Goal::File(target) => target.put(&data, out)?,
+        _ if out.is_json() => out.fact("data", hex(&data))?,
+        Goal::Screen => preview(&data, out)?,
+        Goal::Standard => out.bytes(&data)?,
     }
     Ok(Outcome::Done)
 }
@@ -53,12 +42,6 @@ pub fn absent(id: NodeId) -> Failure {
     Failure::Absent(format!(
         "node {id} is absent: the node tree is sound as far as it was read, and does not list it"
     ))
-}
-
-fn told(path: &Path, data: &[u8], out: &mut Output<'_>) -> Result<(), Failure> {
-    let length = counted(data.len() as u64, "byte");
-    out.line(format!("{length} written to {}", names::shown(path)))?;
-    out.name("output", path)
 }
 
 fn preview(data: &[u8], out: &mut Output<'_>) -> Result<(), Failure> {

@@ -10,9 +10,11 @@ use crate::words::{counted, node_type, place, spaced_hex};
 use indicatif::HumanCount;
 use rekwonuda::{Block, Fault, Node, Refusal, WrongKey};
 
-const FIRST_ROOM: u64 = 0x4400;
-const STEP: u64 = 64;
-const PAGE: usize = 512;
+/// Where the first page or block may stand.
+pub const FIRST_ROOM: u64 = 0x4400;
+/// What all their offsets are multiples of.
+pub const STEP: u64 = 64;
+pub const PAGE: usize = 512;
 const SECOND_SUMMED: usize = 516;
 
 /// `wrong_key` is the key at fault, of a refusal by a key.

@@ -23,7 +23,7 @@ pub struct Report {
     pub outcome: Outcome,
     stages: Vec<Stage>,
     /// The refusal that decides the outcome.
-    decisive: Option<Account>,
+    pub decisive: Option<Account>,
     remark: Option<Remark>,
 }
 

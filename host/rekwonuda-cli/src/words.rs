@@ -12,9 +12,13 @@ pub fn place(offset: u64) -> String {
     format!("{offset:#x} ({})", HumanCount(offset))
 }
 
-/// "1 node", "2 nodes".
+/// "1 node", "2 nodes", "2 stretches".
 pub fn counted(number: u64, noun: &str) -> String {
-    let plural = if number == 1 { "" } else { "s" };
+    let plural = match number {
+        1 => "",
+        _ if noun.ends_with("ch") => "es",
+        _ => "s",
+    };
     format!("{} {noun}{plural}", HumanCount(number))
 }
 

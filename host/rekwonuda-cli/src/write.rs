@@ -1,12 +1,34 @@
 //! Writes a file so that nothing that was there is harmed.
 
+use crate::args::OutputArguments;
 use crate::names;
 use crate::outcome::Failure;
-use crate::source::Identity;
+use crate::output::Output;
+use crate::source::{Identity, Source};
+use crate::words::counted;
 use std::fs::{self, File, OpenOptions};
-use std::io::{self, ErrorKind, Write};
+use std::io::{self, ErrorKind, IsTerminal, Write};
 use std::path::{Path, PathBuf};
 use std::process;
+
+/// Where the bytes go that a command makes.
+pub enum Goal<'a> {
+    File(Target<'a>),
+    Standard,
+    /// A terminal that was not asked for, and gets a preview.
+    Screen,
+}
+
+impl<'a> Goal<'a> {
+    pub fn of(arguments: &'a OutputArguments, source: &Source) -> Result<Goal<'a>, Failure> {
+        match arguments.output.as_deref() {
+            Some(path) if names::is_standard(path) => Ok(Goal::Standard),
+            Some(path) => Target::new(path, source.identity(), arguments.force).map(Goal::File),
+            None if io::stdout().is_terminal() => Ok(Goal::Screen),
+            None => Ok(Goal::Standard),
+        }
+    }
+}
 
 /// A file to be written, whose name is found to be free or may be taken.
 pub struct Target<'a> {
@@ -17,9 +39,9 @@ pub struct Target<'a> {
 }
 
 impl<'a> Target<'a> {
-    /// Makes sure, before the node is looked at, that the name may be written to: that it is not the
+    /// Makes sure, before the file is looked at, that the name may be written to: that it is not the
     /// source, by whatever name or link, and is free, unless it may be replaced.
-    pub fn new(name: &'a Path, source: Identity, force: bool) -> Result<Target<'a>, Failure> {
+    fn new(name: &'a Path, source: Identity, force: bool) -> Result<Target<'a>, Failure> {
         let refuse = |why: &str| {
             let name = names::shown(name);
             Err(Failure::Error(format!("will not write to {name}: {why}")))
@@ -45,8 +67,15 @@ impl<'a> Target<'a> {
         })
     }
 
-    /// Writes all bytes, or leaves everything as it was.
-    pub fn write(&self, bytes: &[u8]) -> Result<(), Failure> {
+    /// Writes all bytes and says so, or leaves everything as it was.
+    pub fn put(&self, bytes: &[u8], out: &mut Output<'_>) -> Result<(), Failure> {
+        self.write(bytes)?;
+        let length = counted(bytes.len() as u64, "byte");
+        out.line(format!("{length} written to {}", names::shown(self.name)))?;
+        out.name("output", self.name)
+    }
+
+    fn write(&self, bytes: &[u8]) -> Result<(), Failure> {
         let folder = match self.path.parent() {
             Some(folder) if folder != Path::new("") => folder,
             _ => Path::new("."),

@@ -68,6 +68,12 @@ impl<'a> Image<'a> {
         Ok(self.0.get(start..).unwrap_or_default())
     }
 
+    /// What an accepted header says, and the bytes up to the end that it states.
+    pub(crate) fn file(&self) -> Option<(Header, &'a [u8])> {
+        let header = self.header().ok()?;
+        Some((header, self.0.get(..header.end as usize)?))
+    }
+
     /// Checks the header and then the whole node tree.
     ///
     /// # Errors

@@ -1,6 +1,9 @@
 //! Where the fields of a page stand, by the edition.
 
-use crate::Edition;
+use crate::image::number_of;
+use crate::{checksum, Edition};
+
+pub const PAGE: usize = 512;
 
 #[derive(Debug)]
 pub struct Layout {
@@ -20,9 +23,16 @@ pub struct Layout {
     pub other: (u8, u8),
 }
 
+/// What the trailer of a page must say.
+pub struct Seal {
+    pub kind: u8,
+    pub number: u64,
+    pub signature: u16,
+}
+
 impl Layout {
     /// Where the number of the page stands.
-    pub const NUMBER: usize = 504;
+    const NUMBER: usize = 504;
 
     pub fn of(edition: Edition) -> &'static Layout {
         match edition {
@@ -43,5 +53,23 @@ impl Layout {
                 other: (24, 20),
             },
         }
+    }
+
+    /// The number that stands in a page.
+    pub fn number(&self, page: &[u8]) -> u64 {
+        number_of(&page[Self::NUMBER..Self::NUMBER + self.width])
+    }
+
+    /// Whether the kind, number, signature and checksum of a page are right.
+    pub fn is_sealed(&self, page: &[u8], seal: &Seal) -> bool {
+        let Layout {
+            trailer,
+            checksum: sum,
+            ..
+        } = *self;
+        page[trailer..trailer + 2] == [seal.kind; 2]
+            && self.number(page) == seal.number
+            && page[trailer + 2..trailer + 4] == seal.signature.to_le_bytes()
+            && page[sum..sum + 4] == checksum(&page[..trailer]).to_le_bytes()
     }
 }

@@ -25,8 +25,9 @@
 //! several proved answers: the iterators [`Image::nodes`], [`Image::blocks`], [`Heap::properties`] and
 //! [`Table::columns`], the scan of [`Table::find_column`], the pieces of [`Image::find_nodes`], the buffers
 //! of [`Image::block_data`] and [`Image::node_data`], where [`Image::hanging`] begins, and that a table
-//! lacks its rows. Two calls read bytes of the image by themselves: [`Image::data_blocks`] a list of
-//! blocks, [`Image::wrong_node_key`] and its like the pages of a tree.
+//! lacks its rows. Some calls read bytes of the image by themselves: [`Image::data_blocks`] a list of
+//! blocks, [`Image::wrong_node_key`] and [`Image::node_pages`] and their like the pages of a tree,
+//! [`Image::map_pages`] the trailers of maps.
 #![deny(missing_docs)]
 #![forbid(unsafe_code)]
 #![warn(
@@ -43,7 +44,10 @@ mod id;
 mod image;
 mod layout;
 mod list;
+mod maps;
 mod method;
+mod page;
+mod pages;
 mod refusal;
 mod table;
 mod wrong_key;
@@ -56,6 +60,7 @@ pub use id::{BlockId, ItemId, NodeId, Tag};
 pub use image::Image;
 pub use list::{Blocks, Nodes};
 pub use method::Method;
+pub use pages::{TreePage, TreePages};
 pub use refusal::Refusal;
 pub use table::{Cell, Column, Columns, RowsPlace, Table, TableRecord};
 pub use wrong_key::{Key, WrongKey, WrongKeys};

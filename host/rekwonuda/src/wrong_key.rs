@@ -1,15 +1,10 @@
 //! The entry of a page whose key is at fault, and what the page may hold. The proved calls hand out the
 //! page's offset and the entry's index; all else is read here, from the page and from those above it.
 
-use crate::image::number_of;
-use crate::layout::Layout;
-use crate::{checksum, signature, Edition, Fault, Image, PageReference, Refusal};
+use crate::page::{Page, Tree};
+use crate::pages::Walk;
+use crate::{Fault, Image, Refusal};
 use std::iter::FusedIterator;
-
-const PAGE: usize = 512;
-const STEP: usize = 64;
-const FIRST_OFFSET: usize = 0x4400;
-const MOST_LEVEL: u8 = 7;
 
 /// The key of an entry.
 ///
@@ -143,35 +138,11 @@ fn named_by(refusal: &Refusal, mut wrong_keys: WrongKeys<'_>) -> Option<WrongKey
 /// ```
 #[derive(Clone, Debug)]
 #[must_use = "an iterator does nothing until it is gone through"]
-pub struct WrongKeys<'a> {
-    /// The file, without what hangs on behind it.
-    bytes: &'a [u8],
-    tree: Tree,
-    layout: &'static Layout,
-    /// The branches to be followed, the next one last.
-    ahead: Vec<Branch>,
-    /// How many more are followed. The pages that a check accepts all stand at offsets of their own, so
-    /// that as many branches as there are offsets lead to its first fault.
-    left: usize,
-}
+pub struct WrongKeys<'a>(Walk<'a>);
 
 impl<'a> WrongKeys<'a> {
     fn new(image: Image<'a>, tree: Tree) -> Self {
-        let header = image.header().ok();
-        let root = header.map(|header| match tree {
-            Tree::Nodes => header.nodes,
-            Tree::Blocks => header.blocks,
-        });
-        let end = header.map_or(0, |header| header.end as usize);
-        let edition = header.map_or(Edition::Bits64, |header| header.edition);
-        let bytes = image.bytes().get(..end).unwrap_or_default();
-        Self {
-            bytes,
-            tree,
-            layout: Layout::of(edition),
-            ahead: root.map(Branch::root).into_iter().collect(),
-            left: bytes.len() / STEP,
-        }
+        Self(Walk::new(image, tree))
     }
 }
 
@@ -179,154 +150,16 @@ impl Iterator for WrongKeys<'_> {
     type Item = WrongKey;
 
     fn next(&mut self) -> Option<Self::Item> {
-        while let Some(left) = self.left.checked_sub(1) {
-            self.left = left;
-            let branch = self.ahead.pop()?;
-            let Some(page) = Page::behind(branch, self.tree, self.layout, self.bytes) else {
-                continue;
-            };
-            let wrong = page.wrong_key();
-            if wrong.is_some() {
-                return wrong;
-            }
-            self.ahead.extend(page.children().rev());
-        }
-        None
+        self.0.find_map(|met| met.wrong_key)
     }
 }
 
 impl FusedIterator for WrongKeys<'_> {}
 
-#[derive(Clone, Copy, Debug, PartialEq, Eq)]
-enum Tree {
-    Nodes,
-    Blocks,
-}
-
-impl Tree {
-    fn kind(self) -> u8 {
-        match self {
-            Self::Nodes => 0x81,
-            Self::Blocks => 0x80,
-        }
-    }
-
-    fn key(self, stored: u64) -> Key {
-        let compared = match self {
-            Self::Nodes => stored & 0xFFFF_FFFF,
-            Self::Blocks => stored & !1,
-        };
-        Key { stored, compared }
-    }
-
-    /// How many bytes an entry has in a page of that level, and how many entries the page has at most.
-    fn entries(self, level: u8, layout: &Layout) -> (u8, u8) {
-        match (self, level) {
-            (Self::Nodes, 0) => layout.node_leaf,
-            _ => layout.other,
-        }
-    }
-}
-
-/// A reference to a page, and what the page must be.
-#[derive(Clone, Copy, Debug)]
-struct Branch {
-    page: PageReference,
-    /// `None` for a root, which may have any level.
-    level: Option<u8>,
-    from: u64,
-    to: Option<u64>,
-}
-
-impl Branch {
-    fn root(page: PageReference) -> Self {
-        Self {
-            page,
-            level: None,
-            from: 0,
-            to: None,
-        }
-    }
-}
-
-/// A page that passes the tests before that of its keys, so that its entries can be read.
-struct Page<'a> {
-    branch: Branch,
-    tree: Tree,
-    layout: &'static Layout,
-    bytes: &'a [u8],
-}
-
-impl<'a> Page<'a> {
-    fn behind(branch: Branch, tree: Tree, layout: &'static Layout, file: &'a [u8]) -> Option<Self> {
-        let start = usize::try_from(branch.page.offset).ok()?;
-        let bytes = file.get(start..start.checked_add(PAGE)?)?;
-        let page = Self {
-            branch,
-            tree,
-            layout,
-            bytes,
-        };
-        let stands = start.is_multiple_of(STEP) && start >= FIRST_OFFSET;
-        (stands && page.is_sealed() && page.is_counted()).then_some(page)
-    }
-
-    /// Whether its kind, number, signature and checksum are right.
-    fn is_sealed(&self) -> bool {
-        let PageReference { number, offset } = self.branch.page;
-        let Layout {
-            width,
-            trailer,
-            checksum: sum,
-            ..
-        } = *self.layout;
-        self.bytes[trailer..trailer + 2] == [self.tree.kind(); 2]
-            && number_of(&self.bytes[Layout::NUMBER..Layout::NUMBER + width]) == number
-            && self.bytes[trailer + 2..trailer + 4] == signature(offset, number).to_le_bytes()
-            && self.bytes[sum..sum + 4] == checksum(&self.bytes[..trailer]).to_le_bytes()
-    }
-
-    /// Whether its level and counts are right. That it has entries is not asked: without any it has no
-    /// key at fault.
-    fn is_counted(&self) -> bool {
-        let [count, room, size, level] = self.counts();
-        let (entry_size, most) = self.tree.entries(level, self.layout);
-        self.branch.level.unwrap_or(level) == level
-            && level <= MOST_LEVEL
-            && size == entry_size
-            && room <= most
-            && count <= room
-    }
-
-    /// The count of its entries, the room for them, their size, and its level.
-    fn counts(&self) -> [u8; 4] {
-        [0, 1, 2, 3].map(|at| self.bytes[self.layout.counts + at])
-    }
-
-    fn level(&self) -> u8 {
-        self.counts()[3]
-    }
-
-    fn count(&self) -> usize {
-        self.counts()[0].into()
-    }
-
-    /// A field of an entry: the key is the first, and of an index entry a page's number and offset are
-    /// the next two.
-    fn field(&self, entry: usize, field: usize) -> u64 {
-        let (size, _) = self.tree.entries(self.level(), self.layout);
-        let width = self.layout.width;
-        let start = entry * usize::from(size) + field * width;
-        number_of(&self.bytes[start..start + width])
-    }
-
-    fn key(&self, entry: usize) -> Key {
-        self.tree.key(self.field(entry, 0))
-    }
-
+impl Page<'_> {
     /// The first entry at fault. At each entry its order comes before its range.
-    fn wrong_key(&self) -> Option<WrongKey> {
-        let Branch { from, to, .. } = self.branch;
+    pub fn wrong_key(&self) -> Option<WrongKey> {
+        let (from, to) = self.range();
         let fault = |entry: usize| {
             let key = self.key(entry).compared;
             let before = entry.checked_sub(1).map(|before| self.key(before));
@@ -340,7 +173,7 @@ impl<'a> Page<'a> {
         let (entry, fault) = entries.find_map(|entry| Some((entry, fault(entry)?)))?;
         Some(WrongKey {
             fault,
-            page: self.branch.page.offset,
+            page: self.offset(),
             level: self.level(),
             entries: self.count(),
             entry,
@@ -348,27 +181,6 @@ impl<'a> Page<'a> {
             before: entry.checked_sub(1).map(|before| self.key(before)),
             from,
             to,
-        })
-    }
-
-    /// The branches to its children, from left to right; a leaf has none.
-    fn children(&self) -> impl DoubleEndedIterator<Item = Branch> + '_ {
-        let level = self.level().checked_sub(1);
-        let count = level.map_or(0, |_| self.count());
-        (0..count).map(move |entry| {
-            let is_last = entry + 1 == count;
-            Branch {
-                page: PageReference {
-                    number: self.field(entry, 1),
-                    offset: self.field(entry, 2),
-                },
-                level,
-                from: self.key(entry).compared,
-                to: match is_last {
-                    true => self.branch.to,
-                    false => Some(self.key(entry + 1).compared),
-                },
-            }
         })
     }
 }

@@ -9,6 +9,7 @@ pub(crate) mod items;
 pub mod keys;
 pub mod limits;
 pub mod lists;
+pub mod maps;
 pub mod office;
 mod pages;
 pub mod seal;

@@ -16,13 +16,14 @@ use std::path::{Path, PathBuf};
 
 /// Every command on the path, with all that it can ask for.
 fn hold_commands(shapes: &Shapes, path: &Path, nodes: &[u64]) {
-    let commands: [&[&str]; 6] = [
+    let commands: [&[&str]; 7] = [
         &["check"],
         &["check", "--all"],
         &["info"],
         &["nodes"],
         &["blocks"],
         &["folders"],
+        &["map"],
     ];
     for words in commands {
         shapes.hold_run(&run(&[words, &["--json"]].concat(), path, &[]));
@@ -143,7 +144,7 @@ fn hold_failures(shapes: &Shapes) {
         let message = answer["message"].as_str().unwrap();
         assert!(message.contains("--help"), "{answer}");
     }
-    for command in ["check", "info", "nodes", "blocks", "folders"] {
+    for command in ["check", "info", "nodes", "blocks", "folders", "map"] {
         let answer = shapes.hold_run(&run(&[command, "--json"], Path::new("no/such.pst"), &[]));
         assert_eq!(answer["file"], "no/such.pst");
         assert_eq!(answer["status"], 2);
@@ -167,10 +168,12 @@ fn hold_names(shapes: &Shapes) {
     shapes.hold_run(&several);
     assert!(several.text.contains("file_hex") && !several.text.contains('\x1b'));
     let out = folder.join(OsStr::from_bytes(b"\xFE"));
-    let mut node = command(&["node", "--json"], &office(), &["0x21", "-o"]);
-    let answer = shapes.hold_run(&Run::of(node.arg(&out).output().unwrap()));
-    let name = unhex(answer["output_hex"].as_str().unwrap());
-    assert_eq!(name, out.as_os_str().as_bytes());
+    for (words, rest) in [("node", &["0x21", "-o"][..]), ("map", &["--force", "-o"])] {
+        let mut run = command(&[words, "--json"], &office(), rest);
+        let answer = shapes.hold_run(&Run::of(run.arg(&out).output().unwrap()));
+        let name = unhex(answer["output_hex"].as_str().unwrap());
+        assert_eq!(name, out.as_os_str().as_bytes());
+    }
 }
 
 fn unhex(digits: &str) -> Vec<u8> {

@@ -50,6 +50,11 @@ impl Made {
         }
     }
 
+    /// Leaves so many bytes of zeros.
+    pub fn leave(&mut self, length: usize) {
+        self.image.resize(self.image.len() + length, 0);
+    }
+
     /// Places a block of data, and answers its number.
     pub fn block(&mut self, data: &[u8]) -> u64 {
         self.place(data, 4 * (self.blocks.len() as u64 + 1))

@@ -14,6 +14,7 @@ mod keys;
 mod lists;
 mod made;
 mod many;
+mod map;
 mod node;
 mod page;
 mod props;

@@ -14,7 +14,7 @@ use std::process::Stdio;
 fn wrong_usage_has_status_2() {
     let nothing: [&str; 0] = [];
     let commands = [&["check"][..], &["find"], &["node"], &["props"], &["table"]];
-    let commands = [&commands[..], &[&["folders"], &["mend"]]].concat();
+    let commands = [&commands[..], &[&["folders"], &["map"], &["mend"]]].concat();
     for words in commands.iter().chain(&[&nothing[..]]) {
         let run = run(words, Path::new("--none"), &[]);
         assert_eq!(run.status, 2, "{words:?}");
@@ -51,8 +51,10 @@ fn a_reader_that_stops_reading_is_no_panic() {
     let path = file("unread.pst", &build(3, &plan).image);
     let several = [path.to_str().unwrap(); 3];
     let numbers = vec!["1"; 20_000];
-    let lists: [(&[&str], &[&str]); 6] = [
+    let lists: [(&[&str], &[&str]); 8] = [
         (&["nodes"], &[]),
+        (&["map"], &[]),
+        (&["map", "--json"], &[]),
         (&["find"], &numbers),
         (&["nodes", "--json"], &[]),
         (&["check"], &[]),
@@ -90,6 +92,8 @@ fn standard_error_may_be_full_or_closed() {
         ("table in.pst 0x21", 4),
         ("table in.pst 0x20", 3),
         ("folders bad.pst", 1),
+        ("map bad.pst", 1),
+        ("map in.pst -o in.pst", 2),
         ("node in.pst 0x21 -o in.pst", 2),
         ("check none.pst bad.pst", 2),
         ("check in.pst", 0),
@@ -106,7 +110,8 @@ fn standard_output_that_is_full_has_status_2() {
     let sample = office();
     let named = sample.display();
     let commands = ["check", "check --json", "info", "nodes", "blocks --json"];
-    for words in commands.iter().chain(&["folders", "folders --json"]) {
+    let trees = ["folders", "folders --json", "map", "map --json"];
+    for words in commands.iter().chain(&trees) {
         let run = run_in(
             Path::new("."),
             &format!("./rekwonuda {words} {named} >/dev/full"),
@@ -176,7 +181,7 @@ fn help_is_short_or_long_and_tells_the_exit_statuses() {
     assert!(short.text.len() < long.text.len());
     let json = words(&["--json", "--help"]);
     assert_eq!((json.status, json.text), (0, long.text));
-    for command in ["check", "find", "node", "table", "folders"] {
+    for command in ["check", "find", "node", "table", "folders", "map"] {
         let [short, long] = ["-h", "--help"].map(|word| words(&[command, word]));
         assert!(short.text.lines().count() < long.text.lines().count());
         assert!(long.says("3 what was asked for is absent"), "{}", long.text);

@@ -9,7 +9,7 @@ use std::path::{Path, PathBuf};
 const WIDTHS: [usize; 7] = [5, 10, 25, 40, 60, 76, 120];
 
 /// What a terminal of that width is sent by a run with these words.
-fn sent(width: usize, words: &str) -> String {
+pub fn sent(width: usize, words: &str) -> String {
     let inner = format!("stty cols {width} rows 50; {PROGRAM} {words}");
     let script = format!("TERM=xterm script -qec '{inner}' /dev/null < /dev/null");
     let run = run_in(Path::new("."), &script);
@@ -88,7 +88,10 @@ fn a_stage_is_told_when_it_ends() {
 #[test]
 fn help_keeps_to_the_width_of_the_terminal() {
     let helps = ["--help", "-h", "check --help", "node --help"];
-    for words in helps.iter().chain(&["table --help", "folders --help"]) {
+    for words in helps
+        .iter()
+        .chain(&["table --help", "folders --help", "map --help"])
+    {
         for width in [40, 60, 90] {
             let mut screen = Screen::new(1000);
             screen.show(&sent(width, words));
