@@ -1,0 +1,1 @@
+"""Checks any number of files on Dask, and writes a report with a line for each."""
