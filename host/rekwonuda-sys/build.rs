@@ -39,17 +39,23 @@ fn link_words() {
     for path in [&include.join("rekwonuda.h"), &source] {
         println!("cargo:rerun-if-changed={}", path.display());
     }
-    println!("cargo:rerun-if-env-changed=CC");
+    for variable in ["CC", "AR"] {
+        println!("cargo:rerun-if-env-changed={variable}");
+    }
     let out = PathBuf::from(env::var_os("OUT_DIR").unwrap_or_default());
     let object = out.join("words.o");
-    let compiler = env::var_os("CC").unwrap_or_else(|| OsString::from("cc"));
-    let mut compile = Command::new(compiler);
+    let mut compile = tool("CC", "cc");
     compile.args(["-std=c11", "-O2", "-fPIC", "-c", "-o"]);
     run(compile.arg(&object).arg("-I").arg(include).arg(source));
-    let mut pack = Command::new("ar");
+    let mut pack = tool("AR", "ar");
     run(pack.arg("crs").arg(out.join("librkw_words.a")).arg(object));
     println!("cargo:rustc-link-search=native={}", out.display());
     println!("cargo:rustc-link-lib=static=rkw_words");
+}
+
+/// The program that the variable names, or this one.
+fn tool(variable: &str, program: &str) -> Command {
+    Command::new(env::var_os(variable).unwrap_or_else(|| OsString::from(program)))
 }
 
 fn run(command: &mut Command) {

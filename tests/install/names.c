@@ -1,0 +1,64 @@
+/* Says every name of rekwonuda.h with its number, and what each refusal is in words. */
+#include <inttypes.h>
+#include <rekwonuda.h>
+#include <stdio.h>
+
+#define NAME(name) printf("%s %d\n", #name, (int)(name))
+#define WORDS(name, place) printf("%s %d at %d: %s\n", #name, (int)(name), place, rkw_refusal_words(name, place))
+
+static void say_header_refusals(void)
+{
+    WORDS(RKW_ANSWERED, 0);
+    WORDS(RKW_REFUSED_IMAGE_LENGTH, 0);
+    WORDS(RKW_REFUSED_IMAGE_LENGTH, 184);
+    WORDS(RKW_REFUSED_IMAGE_LENGTH, 168);
+    WORDS(RKW_REFUSED_MAGIC, 0);
+    WORDS(RKW_REFUSED_MAGIC, 8);
+    WORDS(RKW_REFUSED_VERSION, 10);
+    WORDS(RKW_REFUSED_HEADER_CHECKSUM, 4);
+    WORDS(RKW_REFUSED_HEADER_CHECKSUM, 524);
+    WORDS(RKW_REFUSED_ENCODING, 512);
+    WORDS(RKW_REFUSED_ENCODING, 513);
+    WORDS(RKW_REFUSED_ENCODING, 460);
+    WORDS(RKW_REFUSED_ENCODING, 461);
+    WORDS(RKW_REFUSED_ENCODING, 0);
+}
+
+static void say_other_refusals(void)
+{
+    WORDS(RKW_REFUSED_PAGE_OFFSET, 17408);
+    WORDS(RKW_REFUSED_PAGE_KIND, 17408);
+    WORDS(RKW_REFUSED_PAGE_NUMBER, 17408);
+    WORDS(RKW_REFUSED_PAGE_CHECKSUM, 17408);
+    WORDS(RKW_REFUSED_PAGE_COUNTS, 17408);
+    WORDS(RKW_REFUSED_KEY_ORDER, 17408);
+    WORDS(RKW_REFUSED_BLOCK_UNLISTED, 0);
+    WORDS(RKW_REFUSED_BLOCK_OFFSET, 17408);
+    WORDS(RKW_REFUSED_BLOCK_TRAILER, 17408);
+    WORDS(RKW_REFUSED_BLOCK_CHECKSUM, 17408);
+    WORDS(RKW_REFUSED_DATA_TREE, 17408);
+    WORDS(RKW_REFUSED_SHORT_BUFFER, 0);
+    WORDS(RKW_REFUSED_HEAP_SHAPE, 0);
+    WORDS(RKW_REFUSED_HEAP_ITEM, 0);
+    WORDS(RKW_REFUSED_PROPERTY_TREE, 0);
+    WORDS(RKW_REFUSED_KEY_RANGE, 17408);
+    WORDS(22, 0);
+    WORDS(RKW_REFUSED_TABLE_SHAPE, 0);
+    WORDS(24, 0);
+}
+
+int main(void)
+{
+    NAME(RKW_METHOD_NONE);
+    NAME(RKW_METHOD_PERMUTE);
+    NAME(RKW_METHOD_CYCLIC);
+    NAME(RKW_KIND_NUMBER);
+    NAME(RKW_KIND_EMPTY);
+    NAME(RKW_KIND_ITEM);
+    NAME(RKW_KIND_SUBNODE);
+    NAME(RKW_KIND_MISSING);
+    say_header_refusals();
+    say_other_refusals();
+    printf("version %d, %s, %" PRIu64 "\n", RKW_VERSION, RKW_VERSION_TEXT, rkw_version());
+    return 0;
+}
