@@ -20,6 +20,7 @@ FISHDIR = $(PREFIX)/share/fish/vendor_completions.d
 # On an Arm machine all is built for x86-64, as host/x86-64 says.
 compiler := $(shell . host/x86-64; echo $${CC:-gcc})
 archiver := $(shell . host/x86-64; echo $${AR:-ar})
+stripper := $(shell . host/x86-64; echo $${STRIP:-strip})
 program := target/host/$(shell . host/x86-64; echo $${CARGO_BUILD_TARGET:+$$CARGO_BUILD_TARGET/})release/rekwonuda
 version := $(shell sed -n 's/^\#define RKW_VERSION_TEXT "\(.*\)"/\1/p' include/rekwonuda.h)
 archive = target/staticlib/librkw.a
@@ -58,7 +59,7 @@ target/share/completions/fish: $(program)
 
 install: all
 	install -d $(addprefix $(DESTDIR),$(PREFIX)/bin $(PREFIX)/include $(PREFIX)/lib/pkgconfig)
-	install $(program) $(DESTDIR)$(PREFIX)/bin/rekwonuda
+	install -s --strip-program=$(stripper) $(program) $(DESTDIR)$(PREFIX)/bin/rekwonuda
 	install -m 644 include/rekwonuda.h $(DESTDIR)$(PREFIX)/include/
 	install -m 644 target/lib/librkw.a target/lib/librkw.so.0 $(DESTDIR)$(PREFIX)/lib/
 	ln -sf librkw.so.0 $(DESTDIR)$(PREFIX)/lib/librkw.so
@@ -70,7 +71,8 @@ install: all
 	for file in $(package); do \
 	    install -D -m 644 host/python/$$file $(DESTDIR)$(PYTHONDIR)/$$file || exit 1; \
 	done
-	install -d $(DESTDIR)$(DOCDIR) && install -m 644 README.md docs/*.md $(DESTDIR)$(DOCDIR)/
+	install -D -m 644 README.md $(DESTDIR)$(DOCDIR)/README.md
+	install -d $(DESTDIR)$(DOCDIR)/docs && install -m 644 docs/*.md docs/*.svg $(DESTDIR)$(DOCDIR)/docs/
 
 uninstall:
 	rm -f $(DESTDIR)$(PREFIX)/bin/rekwonuda $(DESTDIR)$(PREFIX)/include/rekwonuda.h
