@@ -3,6 +3,7 @@
 
 use model::{check_nodes, find_block, find_node, header, Lookup, Refusal};
 use std::fs;
+use std::ops::Range;
 
 fn image() -> Vec<u8> {
     let path = concat!(env!("CARGO_MANIFEST_DIR"), "/../../samples/mini.img");
@@ -53,7 +54,7 @@ fn blocks_of_a_real_file() {
 }
 
 fn data(name: &str) -> Vec<u8> {
-    let folder = concat!(env!("CARGO_MANIFEST_DIR"), "/../../crates/vectors/data/");
+    let folder = concat!(env!("CARGO_MANIFEST_DIR"), "/../../crates/");
     fs::read(format!("{folder}{name}")).expect("a file of the worked examples")
 }
 
@@ -65,25 +66,56 @@ fn listed(name: &str) -> Vec<u8> {
         .collect()
 }
 
-/// The header says where the whole file ended, behind the bytes that are there; the copy, which ends with
-/// them, differs in the end-of-file number and the two checksums of the header alone.
-fn assert_ended(cut: &[u8], ended: &[u8]) {
-    assert_eq!(header(cut), Err(Refusal::new(1, 184)));
+/// Where two things of one length differ.
+fn changed(one: &[u8], other: &[u8]) -> Vec<usize> {
+    assert_eq!(one.len(), other.len());
+    (0..one.len()).filter(|at| one[*at] != other[*at]).collect()
+}
+
+const NUMBER_AND_CHECKSUMS: [Range<usize>; 3] = [184..192, 4..8, 524..528];
+const NUMBER_AND_CHECKSUM_32: [Range<usize>; 2] = [168..172, 4..8];
+
+/// The header says where the whole file ended, behind the bytes that are there. The copy, which ends with
+/// them, differs alone in that number, which is the first of these places, and in the header's checksums.
+fn assert_ended(cut: &[u8], ended: &[u8], may_change: &[Range<usize>]) {
+    assert_eq!(
+        header(cut),
+        Err(Refusal::new(1, may_change[0].start as u64))
+    );
     let header = header(ended).expect("a header");
     assert_eq!(header.end, ended.len() as u64);
-    assert_eq!(cut.len(), ended.len());
-    let changed = |at: &usize| cut[*at] != ended[*at];
-    let places = (0..cut.len()).filter(changed);
-    for at in places {
-        let may_change = [4..8, 184..192, 524..528];
+    for at in changed(cut, ended) {
         assert!(may_change.iter().any(|range| range.contains(&at)), "{at}");
     }
 }
 
 #[test]
 fn parts_of_real_files_end_where_they_were_cut() {
-    let ended = data("real_mini_ended.img");
+    let ended = data("vectors/data/real_mini_ended.img");
     assert_eq!(ended, image());
-    assert_ended(&data("real_mini_64bit.img"), &ended);
-    assert_ended(&listed("3.2_header.hex"), &listed("3.2_header_ended.hex"));
+    let cut = data("vectors/data/real_mini_64bit.img");
+    assert_ended(&cut, &ended, &NUMBER_AND_CHECKSUMS);
+    let cut = listed("vectors/data/3.2_header.hex");
+    let ended = listed("vectors/data/3.2_header_ended.hex");
+    assert_ended(&cut, &ended, &NUMBER_AND_CHECKSUMS);
+    let mut cut = listed("vectors32/data/real_header_32bit.hex");
+    cut.resize(564, 0);
+    let ended = listed("vectors32/data/real_header_ended_32bit.hex");
+    assert_ended(&cut, &ended, &NUMBER_AND_CHECKSUM_32);
+}
+
+/// The pages of the node tree stand elsewhere than in the file, and the signature is of the offset.
+#[test]
+fn images_of_a_real_32_bit_file_hold_its_pages() {
+    let (roots, leaves) = ("real_roots_32bit.img", "real_leaves_32bit.img");
+    for (image, page, offset, moved) in [
+        (roots, "real_bbt_root_32bit.hex", 0x5400, &[][..]),
+        (roots, "real_nbt_root_32bit.hex", 0x7E00, &[502]),
+        (leaves, "real_bbt_leaf_32bit.hex", 0xD400, &[]),
+        (leaves, "real_nbt_leaf_32bit.hex", 0x8400, &[502]),
+    ] {
+        let image = data(&format!("vectors32/data/{image}"));
+        let page = listed(&format!("vectors32/data/{page}"));
+        assert_eq!(changed(&page, &image[offset..offset + 512]), moved);
+    }
 }
