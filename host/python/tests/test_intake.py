@@ -162,6 +162,12 @@ class Stage:
         (self.folder / "go").touch()
 
 
+@pytest.fixture(scope="module", autouse=True)
+def interruptible() -> None:
+    """A shell has what runs in its background ignore interrupts, and all that this starts would too."""
+    signal.signal(signal.SIGINT, signal.default_int_handler)
+
+
 @pytest.fixture(scope="session")
 def program() -> str:
     """The command line, which REKWONUDA_PROGRAM names."""
