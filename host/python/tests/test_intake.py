@@ -303,8 +303,6 @@ def test_a_file_that_kills_its_workers_costs_its_own_line(stage: Stage) -> None:
     assert Counter(stage.lines()) == stage.expected() + Counter([error_line(path, died)])
 
 
-
-
 def test_what_is_no_answer_for_the_file_costs_its_own_line(stage: Stage, cluster: Cluster) -> None:
     endings = {
         "silent.pst": "ended with status 0",

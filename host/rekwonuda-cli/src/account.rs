@@ -77,13 +77,9 @@ impl Account {
         self.refusal.number()
     }
 
-    /// The offset that the refusal names; none of those whose place is always 0, and where the length
-    /// of the file is at fault by itself.
+    /// The offset that the refusal names, if it names one.
     pub fn offset(&self) -> Option<u64> {
-        match (self.number(), self.refusal.place) {
-            (1, 0) | (12 | 17..=20 | 23, _) => None,
-            (_, place) => Some(place),
-        }
+        self.refusal.offset()
     }
 
     /// What to do, as the last part of a list of several.

@@ -53,9 +53,10 @@ impl Refusal {
         sys::refusal_words(self.number(), self.place)
     }
 
-    /// Whether the fault has a place in the image.
-    fn has_place(&self) -> bool {
-        match self.fault {
+    /// The offset in the image that it names, if it names one.
+    #[must_use]
+    pub fn offset(&self) -> Option<u64> {
+        let is_offset = match self.fault {
             Fault::BlockUnlisted
             | Fault::ShortBuffer
             | Fault::HeapShape
@@ -64,7 +65,8 @@ impl Refusal {
             | Fault::TableShape => false,
             Fault::ImageLength | Fault::Encoding => self.place != 0,
             _ => true,
-        }
+        };
+        is_offset.then_some(self.place)
     }
 }
 
@@ -78,7 +80,7 @@ impl fmt::Display for Refusal {
                 out,
                 "; entry {more} (counted from 0) of the page at {place:#x} ({place})"
             ),
-            _ if self.has_place() => write!(out, "; at {place:#x} ({place})"),
+            _ if self.offset().is_some() => write!(out, "; at {place:#x} ({place})"),
             _ => Ok(()),
         }
     }
