@@ -1,4 +1,6 @@
 // That no two columns of a table share a tag, a byte or an existence bit.
+#![tactic(auto)]
+
 ghost use Rattle.std.specs.Prelude.{◌≡◌, true, ◌+◌, ◌*◌, ◌≤◌, ◌<◌, length};
 ghost use Rattle.columns.specs.Record.{column_count, existence_start};
 ghost use Rattle.columns.specs.Columns.{apart, apart_from, all_apart, columns_fit, each_fits};

@@ -1,4 +1,6 @@
 // Every call that an image can be asked, and the answers in words: one line for a call.
+#![tactic(auto)]
+
 mod answers;
 mod blocks;
 mod heaps;

@@ -1,4 +1,6 @@
 // Blocks: their room, their tests 12 to 15, and their bytes decoded.
+#![tactic(auto)]
+
 ghost use Rattle.std.specs.Prelude.{◌≡◌, ◌+◌, ◌≤◌, length};
 ghost use Rattle.refusal.specs.Order.{in_order};
 ghost use Rattle.header.specs.Header.{header_fits};
@@ -14,14 +16,14 @@ use refusal::{Fault, Refusal, Verdict};
 use tree::{FoundBlock, Listed, Way};
 
 // A block as it is listed, after its tests; or the refusal.
-#[derive(Drop)]
+#[derive(Clone, Copy)]
 pub enum Checked {
     Block(Listed),
     Refused(Refusal),
 }
 
 // The size of a block; or the refusal.
-#[derive(Drop)]
+#[derive(Clone, Copy)]
 pub enum Sized {
     Size(u64),
     Refused(Refusal),

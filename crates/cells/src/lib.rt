@@ -1,4 +1,6 @@
 // The rows of a table and their cells.
+#![tactic(auto)]
+
 ghost use Rattle.std.specs.Prelude.{◌≡◌, ◌+◌, ◌<◌, length};
 ghost use Rattle.refusal.specs.Order.{in_order};
 ghost use Rattle.heap.specs.Shape.{Heap};
@@ -13,14 +15,14 @@ use keys::Seat;
 use refusal::{Fault, Refusal, Verdict};
 use table::Named;
 
-#[derive(Drop)]
+#[derive(Clone, Copy)]
 pub enum Counted {
     Rows(u64),
     Refused(Refusal),
 }
 
 // A cell's number, nothing, the number of the item or subnode that holds its value, or that its row has none.
-#[derive(Drop)]
+#[derive(Clone, Copy)]
 pub enum Cell {
     Number(u64),
     Empty,

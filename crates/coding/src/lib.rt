@@ -1,4 +1,6 @@
 // Encoding and decoding of a block's bytes, in place.
+#![tactic(auto)]
+
 ghost use Rattle.std.specs.Prelude.{◌≡◌, ◌<◌, ◌≤◌, map};
 ghost use Rattle.coding.specs.Table.{coding_table, entry};
 ghost use Rattle.coding.specs.Coding.{plus as plus_of, minus as minus_of, cyclic_byte, cyclic, word, coded, encoded, decoded, method_fits};

@@ -1,4 +1,6 @@
 // The record of a table and its columns.
+#![tactic(auto)]
+
 ghost use Rattle.std.specs.Prelude.{◌≡◌, ◌+◌, ◌*◌, ◌-◌, ◌≤◌, ◌<◌, length};
 ghost use Rattle.le.specs.Bytes.{byte, field};
 ghost use Rattle.columns.specs.Record.{column_count, existence_start, row_size_of, row_index_item, rows_value_of, record_fits};
@@ -8,7 +10,7 @@ ghost use Rattle.columns.specs.Sound.{RecordSound};
 use keys::{Seat, Shape, Sought};
 
 // Where a column's bytes stand in a row, and which existence bit is its own.
-#[derive(Drop)]
+#[derive(Clone, Copy)]
 pub struct Column {
     pub tag: u32,
     pub offset: usize,

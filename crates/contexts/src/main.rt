@@ -1,5 +1,7 @@
 // Reads the heaps and rows of data/, each built by the second program, and says every answer about the
 // table on them: one line for a call.
+#![tactic(auto)]
+
 mod answers;
 mod rows;
 mod tables;

@@ -1,4 +1,6 @@
 // The checksum of headers, pages and blocks, eight bytes at a time, by the eight tables of 003, 5.3.
+#![tactic(auto)]
+
 ghost use Rattle.std.specs.Prelude.{◌≡◌, ◌+◌, ◌*◌, ◌/◌, ◌%◌, ◌<◌, length};
 ghost use Rattle.remainder.specs.Remainder.{bits};
 ghost use Rattle.crc.specs.Checksum.{checksum as checksum_of, checksum_from};

@@ -1,16 +1,18 @@
 // The two editions of the format, as values: where each has its fields, and how large they are.
+#![tactic(auto)]
+
 ghost use Rattle.std.specs.Prelude.{◌≡◌};
 ghost use Rattle.edition.specs.Editions.{nbt64, bbt64, trailer64, places64, root64, edition64, nbt32, bbt32, trailer32, places32, root32, edition32};
 
 // The bytes that hold a number.
-#[derive(Drop)]
+#[derive(Clone, Copy)]
 pub struct Column {
     pub place: usize,
     pub width: usize,
 }
 
 // Where the header has what is not the same in all editions.
-#[derive(Drop)]
+#[derive(Clone, Copy)]
 pub struct HeaderPlaces {
     // whether a second checksum, of the whole header, stands at 524
     pub whole: bool,
@@ -21,7 +23,7 @@ pub struct HeaderPlaces {
 }
 
 // What differs between the two trees, and between editions of the format.
-#[derive(Drop)]
+#[derive(Clone, Copy)]
 pub struct Layout {
     // the place of the root reference in the header
     pub root: usize,
@@ -53,7 +55,7 @@ pub struct Layout {
 }
 
 // Where a block's trailer has its fields, and how much data a block has at most.
-#[derive(Drop)]
+#[derive(Clone, Copy)]
 pub struct Trailer {
     pub length: u64,
     pub checksum: usize,
@@ -63,13 +65,13 @@ pub struct Trailer {
 }
 
 // The width of a block number in a data tree's root block, and how many it has at most.
-#[derive(Drop)]
+#[derive(Clone, Copy)]
 pub struct RootBlock {
     pub word: usize,
     pub most: usize,
 }
 
-#[derive(Drop)]
+#[derive(Clone, Copy)]
 pub struct Edition {
     // 64 or 32
     pub bits: u64,

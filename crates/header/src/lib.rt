@@ -1,4 +1,6 @@
 // The header's tests, and what it says.
+#![tactic(auto)]
+
 ghost use Rattle.std.specs.Prelude.{◌≡◌, ◌++◌, ◌+◌, ◌≤◌, ◌<◌, eqb, length};
 ghost use Rattle.le.specs.Bytes.{part, field};
 ghost use Rattle.crc.specs.Checksum.{checksum};
@@ -10,13 +12,13 @@ use edition::{Edition, HeaderPlaces, Layout};
 use refusal::{Fault, Refusal, Verdict};
 
 // A page as the header refers to it.
-#[derive(Drop)]
+#[derive(Clone, Copy)]
 pub struct Reference {
     pub number: u64,
     pub offset: u64,
 }
 
-#[derive(Drop)]
+#[derive(Clone, Copy)]
 pub struct Header {
     pub method: u8,
     pub nodes: Reference,
@@ -25,7 +27,7 @@ pub struct Header {
     pub edition: u64,
 }
 
-#[derive(Drop)]
+#[derive(Clone, Copy)]
 pub enum HeaderAnswer {
     Says(Header),
     Refused(Refusal),

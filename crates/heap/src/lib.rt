@@ -1,4 +1,6 @@
 // A heap on one decoded block: its shape, and its items as parts of the block.
+#![tactic(auto)]
+
 ghost use Rattle.std.specs.Prelude.{◌≡◌, ◌+◌, ◌*◌, ◌≤◌, ◌<◌, leb, length};
 ghost use Rattle.le.specs.Bytes.{field};
 ghost use Rattle.heap.specs.Shape.{map_offset, client_kind, user_root, item_count, offset, map_end, never_fall, offsets_fit, heap_test, Heap};
@@ -7,14 +9,14 @@ ghost use Rattle.heap.specs.Items.{item_index, item_fits, Numbered, item_test, i
 use refusal::{Fault, Refusal, Verdict};
 
 // Where an item starts and how long it is.
-#[derive(Drop)]
+#[derive(Clone, Copy)]
 pub enum Span {
     Within(usize, usize),
     Refused(Refusal),
 }
 
 // Where an item starts, and where the next begins.
-#[derive(Drop)]
+#[derive(Clone, Copy)]
 struct Bounds {
     start: usize,
     end: usize,

@@ -1,4 +1,6 @@
 // A search tree whose branches are items of a heap. What a tree is used for says the sizes of its records; the rest is here, once.
+#![tactic(auto)]
+
 ghost use Rattle.std.specs.Prelude.{◌≡◌, ◌+◌, ◌/◌, ◌%◌, ◌≤◌, ◌<◌, eqb};
 ghost use Rattle.refusal.specs.Order.{◌at◌, in_order};
 ghost use Rattle.keys.specs.Records.{key_of, RecordsIn};
@@ -18,7 +20,7 @@ use keys::{End, Range, Seat, Shape, Sought};
 use refusal::{Fault, Refusal, Verdict};
 
 // What a tree on a heap is told by: how many bytes its keys and its entries have, and the fault of a wrong shape.
-#[derive(Drop)]
+#[derive(Clone, Copy)]
 pub struct HeapTree {
     pub key: usize,
     pub entry: usize,
@@ -26,27 +28,27 @@ pub struct HeapTree {
 }
 
 // An item of the tree as it is referred to, and the keys that may stand under it.
-#[derive(Drop)]
+#[derive(Clone, Copy)]
 pub struct Branch {
     pub item: u32,
     pub range: Range,
 }
 
 // How many records an item holds that has passed its tests; or the refusal.
-#[derive(Drop)]
+#[derive(Clone, Copy)]
 pub enum Held {
     Records(usize),
     Refused(Refusal),
 }
 
-#[derive(Drop)]
+#[derive(Clone, Copy)]
 pub enum Chosen {
     Child(Branch),
     Nobody,
 }
 
 // Where in the block the leaf record with the key starts.
-#[derive(Drop)]
+#[derive(Clone, Copy)]
 pub enum FoundRecord {
     At(usize),
     Absent,

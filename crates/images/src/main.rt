@@ -1,4 +1,6 @@
 // Reads the images of data/, each built by the second program, and says every answer: one line for a call.
+#![tactic(auto)]
+
 use asked::image_lines;
 
 // Each method, depth and height of a property tree. In 06 two index keys of the block tree differ in

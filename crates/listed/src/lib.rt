@@ -1,4 +1,6 @@
 // Files of hexadecimal text that list what is expected, and lines of output that say whether it is so.
+#![tactic(auto)]
+
 ghost use Rattle.std.specs.Prelude.{◌≤◌, ◌<◌, length};
 ghost use Rattle.io.specs.Counts.{IsPrefixLen};
 
@@ -103,7 +105,7 @@ pub fn word_end(text: &[u8], from: usize) -> usize
 }
 
 // A word that was read: where it ends in the text, and how many bytes it stands for.
-#[derive(Drop)]
+#[derive(Clone, Copy)]
 pub struct Word {
     pub end: usize,
     pub size: usize,

@@ -1,4 +1,6 @@
 // Node data: one block, or a data tree of one level, into the lent buffer.
+#![tactic(auto)]
+
 ghost use Rattle.std.specs.Prelude.{◌≡◌, true, false, ◌+◌, ◌*◌, ◌≤◌, ◌<◌, length};
 ghost use Rattle.refusal.specs.Order.{◌at◌, ◌needing◌};
 ghost use Rattle.keys.specs.Search.{joined};
@@ -19,7 +21,7 @@ use refusal::{Fault, Refusal, Verdict};
 use tree::{FoundBlock, FoundNode, Listed, Way};
 
 // The length of a node's data; absent; or the refusal.
-#[derive(Drop)]
+#[derive(Clone, Copy)]
 pub enum NodeRead {
     Length(u64),
     Absent,
@@ -27,7 +29,7 @@ pub enum NodeRead {
 }
 
 // The sum of the sizes of a data tree's blocks; or the refusal.
-#[derive(Drop)]
+#[derive(Clone, Copy)]
 pub enum Measured {
     Sum(u64),
     Refused(Refusal),

@@ -1,4 +1,6 @@
 // A list of nodes, looked up in one call.
+#![tactic(auto)]
+
 ghost use Rattle.std.specs.Prelude.{◌≡◌, ◌∷◌, ◌*◌, ◌≤◌, length, drop};
 ghost use Rattle.laws.specs.Front.{fronted};
 ghost use Rattle.refusal.specs.Order.{◌needing◌};

@@ -1,4 +1,6 @@
 // One page: its tests 6 to 11 and 21, and its entries, over a layout.
+#![tactic(auto)]
+
 ghost use Rattle.std.specs.Prelude.{◌≡◌, true, ◌++◌, ◌+◌, ◌*◌, ◌%◌, ◌^◌, ◌≤◌, ◌<◌, leb, length};
 ghost use Rattle.le.specs.Bytes.{byte};
 ghost use Rattle.refusal.specs.Order.{in_order};
@@ -11,14 +13,14 @@ use keys::{End, Order, Range, Shape};
 use refusal::{Fault, Verdict};
 
 // The level that a page must have.
-#[derive(Drop)]
+#[derive(Clone, Copy)]
 pub enum Level {
     AtRoot,
     Exactly(usize),
 }
 
 // A page as it is referred to.
-#[derive(Drop)]
+#[derive(Clone, Copy)]
 pub struct Link {
     pub number: u64,
     pub offset: u64,

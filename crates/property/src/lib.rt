@@ -1,4 +1,6 @@
 // The properties that a heap holds, looked up by their id in a tree of heap items.
+#![tactic(auto)]
+
 ghost use Rattle.std.specs.Prelude.{◌≡◌};
 ghost use Rattle.refusal.specs.Order.{in_order};
 ghost use Rattle.heap.specs.Shape.{user_root, Heap};
@@ -10,7 +12,7 @@ use heaptree::{FoundRecord, HeapTree};
 use refusal::{Fault, Refusal, Verdict};
 
 // A property's type, with its number in place, nothing, or the number of the item or subnode that holds its value.
-#[derive(Drop)]
+#[derive(Clone, Copy)]
 pub enum Property {
     Number(u16, u32),
     Empty(u16),

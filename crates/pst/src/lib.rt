@@ -1,4 +1,6 @@
 // The public calls. None asks for anything beforehand: any bytes and any numbers may be given.
+#![tactic(auto)]
+
 ghost use Rattle.std.specs.Prelude.{◌≡◌};
 ghost use Rattle.pst.specs.Meaning.{verdict_means, header_means, node_means, block_means, sized_means, data_means, span_means, property_means, table_means, column_means, count_means, cell_means, row_means, cells_means};
 ghost use Rattle.pst.specs.Outcomes.{header_outcome, nodes_outcome, blocks_outcome, node_outcome, list_outcome, list_area, block_outcome, next_node_outcome, next_block_outcome, test_outcome, read_outcome, read_buffer, data_outcome, data_buffer, code_outcome, encode_buffer, decode_buffer, heap_outcome, test_item_outcome, item_outcome, span_outcome, property_outcome, table_outcome, column_outcome, count_outcome, cell_outcome, row_outcome, row32_outcome, read_row_outcome, read_row_area, checksum_outcome, signature_outcome, room_outcome, room32_outcome};

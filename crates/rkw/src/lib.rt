@@ -1,4 +1,6 @@
 // The public calls for C and other hosts, as include/rekwonuda.h documents them.
+#![tactic(auto)]
+
 ghost use Rattle.std.specs.Prelude.{◌≡◌, length};
 ghost use Rattle.refusal.specs.Number.{number};
 ghost use Rattle.crc.specs.Checksum.{checksum};
@@ -34,7 +36,7 @@ use table::{ColumnAnswer, FoundRow, Named, TableAnswer};
 use tree::{FoundBlock, FoundNode};
 
 #[repr(C)]
-#[derive(Drop)]
+#[derive(Clone, Copy)]
 pub struct RkwVerdict {
     pub refusal: u64,
     pub place: u64,
@@ -42,7 +44,7 @@ pub struct RkwVerdict {
 }
 
 #[repr(C)]
-#[derive(Drop)]
+#[derive(Clone, Copy)]
 pub struct RkwHeader {
     pub refusal: u64,
     pub place: u64,
@@ -57,7 +59,7 @@ pub struct RkwHeader {
 }
 
 #[repr(C)]
-#[derive(Drop)]
+#[derive(Clone, Copy)]
 pub struct RkwNode {
     pub refusal: u64,
     pub place: u64,
@@ -71,7 +73,7 @@ pub struct RkwNode {
 }
 
 #[repr(C)]
-#[derive(Drop)]
+#[derive(Clone, Copy)]
 pub struct RkwBlock {
     pub refusal: u64,
     pub place: u64,
@@ -85,7 +87,7 @@ pub struct RkwBlock {
 }
 
 #[repr(C)]
-#[derive(Drop)]
+#[derive(Clone, Copy)]
 pub struct RkwSize {
     pub refusal: u64,
     pub place: u64,
@@ -94,7 +96,7 @@ pub struct RkwSize {
 }
 
 #[repr(C)]
-#[derive(Drop)]
+#[derive(Clone, Copy)]
 pub struct RkwLength {
     pub refusal: u64,
     pub place: u64,
@@ -103,7 +105,7 @@ pub struct RkwLength {
 }
 
 #[repr(C)]
-#[derive(Drop)]
+#[derive(Clone, Copy)]
 pub struct RkwData {
     pub refusal: u64,
     pub place: u64,
@@ -113,7 +115,7 @@ pub struct RkwData {
 }
 
 #[repr(C)]
-#[derive(Drop)]
+#[derive(Clone, Copy)]
 pub struct RkwItem {
     pub refusal: u64,
     pub place: u64,
@@ -124,7 +126,7 @@ pub struct RkwItem {
 
 // The property's type is called `type` in C.
 #[repr(C)]
-#[derive(Drop)]
+#[derive(Clone, Copy)]
 pub struct RkwProperty {
     pub refusal: u64,
     pub place: u64,
@@ -136,7 +138,7 @@ pub struct RkwProperty {
 }
 
 #[repr(C)]
-#[derive(Drop)]
+#[derive(Clone, Copy)]
 pub struct RkwTable {
     pub refusal: u64,
     pub place: u64,
@@ -149,7 +151,7 @@ pub struct RkwTable {
 }
 
 #[repr(C)]
-#[derive(Drop)]
+#[derive(Clone, Copy)]
 pub struct RkwColumn {
     pub refusal: u64,
     pub place: u64,
@@ -162,7 +164,7 @@ pub struct RkwColumn {
 }
 
 #[repr(C)]
-#[derive(Drop)]
+#[derive(Clone, Copy)]
 pub struct RkwCount {
     pub refusal: u64,
     pub place: u64,
@@ -171,7 +173,7 @@ pub struct RkwCount {
 }
 
 #[repr(C)]
-#[derive(Drop)]
+#[derive(Clone, Copy)]
 pub struct RkwCell {
     pub refusal: u64,
     pub place: u64,
@@ -182,7 +184,7 @@ pub struct RkwCell {
 }
 
 #[repr(C)]
-#[derive(Drop)]
+#[derive(Clone, Copy)]
 pub struct RkwRow {
     pub refusal: u64,
     pub place: u64,
@@ -192,7 +194,7 @@ pub struct RkwRow {
 }
 
 #[repr(C)]
-#[derive(Drop)]
+#[derive(Clone, Copy)]
 pub struct RkwCells {
     pub refusal: u64,
     pub place: u64,

@@ -1,4 +1,6 @@
 // All cells of a row of a table, in one call.
+#![tactic(auto)]
+
 ghost use Rattle.std.specs.Prelude.{◌≡◌, ◌∷◌, ◌*◌, ◌≤◌, ◌<◌, length, drop};
 ghost use Rattle.laws.specs.Front.{fronted};
 ghost use Rattle.refusal.specs.Order.{◌needing◌};
@@ -10,7 +12,7 @@ ghost use Rattle.rowcells.specs.RowCells.{cell_words, places_of, row_read, row_a
 use cells::Cell;
 use refusal::{Fault, Refusal, Verdict};
 
-#[derive(Drop)]
+#[derive(Clone, Copy)]
 pub enum RowRead {
     Cells(u64),
     Absent,

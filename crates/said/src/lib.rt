@@ -1,12 +1,14 @@
 // What the programs share: a file loaded, words, numbers and refusals printed, areas summed up, and where a
 // listing goes on.
+#![tactic(auto)]
+
 ghost use Rattle.io.specs.Counts.{IsPrefixLen};
 
 use libc::{SEEK_END, SEEK_SET, STDOUT_FILENO};
 use refusal::Refusal;
 
 // What became of a file: all of its bytes, so many, stand at the buffer's front; or it was not loaded.
-#[derive(Drop)]
+#[derive(Clone, Copy)]
 pub struct Loaded {
     pub whole: bool,
     pub size: usize,

@@ -1,4 +1,6 @@
 // Headers, pages and trees in words: what programs that run files say of them, a line for a call.
+#![tactic(auto)]
+
 pub mod pages;
 pub mod trees;
 

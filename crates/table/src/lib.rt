@@ -1,4 +1,6 @@
 // A table on a heap: its record, its columns and its row index.
+#![tactic(auto)]
+
 ghost use Rattle.std.specs.Prelude.{◌≡◌, ◌<◌};
 ghost use Rattle.refusal.specs.Order.{in_order};
 ghost use Rattle.heap.specs.Shape.{Heap};
@@ -13,7 +15,7 @@ use heaptree::{FoundRecord, HeapTree};
 use refusal::{Fault, Refusal, Verdict};
 
 // What a value names: nothing, an item of the heap, or a subnode.
-#[derive(Drop)]
+#[derive(Clone, Copy)]
 pub enum Named {
     Nothing,
     Item(u32),
@@ -21,7 +23,7 @@ pub enum Named {
 }
 
 // How many columns a table has, the size of a row, where its existence bytes begin, and what holds the rows.
-#[derive(Drop)]
+#[derive(Clone, Copy)]
 pub struct Table {
     pub columns: u64,
     pub size: u64,
@@ -29,20 +31,20 @@ pub struct Table {
     pub rows: Named,
 }
 
-#[derive(Drop)]
+#[derive(Clone, Copy)]
 pub enum TableAnswer {
     Says(Table),
     Refused(Refusal),
 }
 
-#[derive(Drop)]
+#[derive(Clone, Copy)]
 pub enum ColumnAnswer {
     Found(Column),
     Absent,
     Refused(Refusal),
 }
 
-#[derive(Drop)]
+#[derive(Clone, Copy)]
 pub enum FoundRow {
     Row(u32),
     Absent,

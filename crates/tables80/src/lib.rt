@@ -2,6 +2,8 @@
 // A constant array would be copied to the stack at each call that borrows it. A match becomes a table
 // that stands still, and its first place is that of key 128, since the compiler takes a byte as a signed
 // number there: with bit 7 turned the byte itself is the place.
+#![tactic(auto)]
+
 ghost use Rattle.std.specs.Prelude.{◌≡◌};
 ghost use Rattle.remainder.specs.Remainder.{table_entry};
 

@@ -1,4 +1,6 @@
 // The whole-tree check and the lookup of a key, over any layout; and what they come to as a node or a block.
+#![tactic(auto)]
+
 ghost use Rattle.std.specs.Prelude.{◌≡◌, true, map, ◌+◌, ◌*◌, ◌≤◌, ◌<◌, length};
 ghost use Rattle.le.specs.Bytes.{part};
 ghost use Rattle.keys.specs.Records.{RecordsIn};
@@ -22,7 +24,7 @@ use page::{Level, Link};
 use refusal::{Refusal, Verdict};
 
 // A leaf entry's numbers, without its padding.
-#[derive(Drop)]
+#[derive(Clone, Copy)]
 pub struct Fields {
     pub first: u64,
     pub second: u64,
@@ -31,7 +33,7 @@ pub struct Fields {
 }
 
 // An entry and the count of pages read; absent, with that count; or the refusal.
-#[derive(Drop)]
+#[derive(Clone, Copy)]
 pub enum Found {
     Entry(Fields, u64),
     Absent(u64),
@@ -39,7 +41,7 @@ pub enum Found {
 }
 
 // A node as its tree lists it: its number, data block, subnode block and parent.
-#[derive(Drop)]
+#[derive(Clone, Copy)]
 pub struct Node {
     pub node: u64,
     pub block: u64,
@@ -47,7 +49,7 @@ pub struct Node {
     pub parent: u64,
 }
 
-#[derive(Drop)]
+#[derive(Clone, Copy)]
 pub enum FoundNode {
     Found(Node, u64),
     Absent(u64),
@@ -55,7 +57,7 @@ pub enum FoundNode {
 }
 
 // A block as its tree lists it.
-#[derive(Drop)]
+#[derive(Clone, Copy)]
 pub struct Listed {
     pub block: u64,
     pub offset: u64,
@@ -63,7 +65,7 @@ pub struct Listed {
     pub references: u64,
 }
 
-#[derive(Drop)]
+#[derive(Clone, Copy)]
 pub enum FoundBlock {
     Found(Listed, u64),
     Absent(u64),
@@ -72,7 +74,7 @@ pub enum FoundBlock {
 
 // Where the way down of a lookup ends, and the count of pages read: at a leaf page; in an index page
 // without an entry to go by; or at a page that is refused.
-#[derive(Drop)]
+#[derive(Clone, Copy)]
 pub enum Way {
     Leaf(Link, u64),
     Nowhere(u64),
@@ -80,7 +82,7 @@ pub enum Way {
 }
 
 // A child, or none.
-#[derive(Drop)]
+#[derive(Clone, Copy)]
 pub enum Next {
     Here(Link),
     NoMore,

@@ -1,5 +1,7 @@
 // Runs the worked examples of 003, and others of its formats, from the files of data/. Each line says
 // the section, the call and the answer; where the file lists the answer too, whether it is that one.
+#![tactic(auto)]
+
 mod heaps;
 mod mini;
 mod pages;

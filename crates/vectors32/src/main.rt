@@ -1,5 +1,7 @@
 // Runs a real file's header and pages of the 32-bit edition, from the files of data/. Each line says the part,
 // the call and the answer; where the bytes hold the answer too, whether it is that one.
+#![tactic(auto)]
+
 use shown::{pages, trees};
 
 // Below all keys of the root page, then the first key, the one before the second, the second and the last.

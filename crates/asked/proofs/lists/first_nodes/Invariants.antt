@@ -1,0 +1,10 @@
+use Prim.Native.Nat.{◌-◌, ◌≤◌}
+use mathlib.Core.Path.{◌≡◌}
+use lib.ListN.{length}
+use Rattle.asked.proofs.lists.first_nodes.Given as goal
+
+abbrev pub invariant-loop-n : goal.invariant-loop-n
+invariant-loop-n l = (l.n ≤ 12) × (length l.list ≡ length l.initial.list)
+
+abbrev pub decreases-loop-n : goal.decreases-loop-n
+decreases-loop-n l = 12 - l.n

@@ -1,0 +1,37 @@
+use Prim.Native.Nat.{◌+◌}
+use mathlib.Core.Path.{sym, ap, ◌∙◌}
+use native.Mathlib.Omega.{arith}
+use Rattle.laws.proofs.Tests.{fails, holds}
+use Rattle.refusal.specs.declared.Fault.TheVariants.{ImageLength, Encoding}
+use Rattle.refusal.specs.declared.Verdict.TheVariants.{Refused}
+use Rattle.refusal.specs.Order.{◌at◌, none, both, here, later}
+use Rattle.refusal.proofs.OrderLaws.{accepted_exactly, refused_exactly}
+use Rattle.edition.specs.declared.HeaderPlaces.{HeaderPlaces}
+use Rattle.header.specs.Header.{last_rules}
+use Rattle.header.proofs.EditionLaws.{fair_places}
+use Rattle.header.proofs.check_last.Goals as goal
+
+pub overflow_add-places : goal.overflow_add-places
+overflow_add-places c =
+    let start = c in
+    omega (arith, (fair_places start.before.before.args.image.now).sentinel, ap (λ (p : HeaderPlaces). p.sentinel) start.places_of.ensures)
+
+pub returns-then-not-known : goal.returns-then-not-known
+unfolding last_rules
+returns-then-not-known c =
+    let d1 = c in let tests = d1.before in
+    c.refused_at.ensures ∙ ap (λ (p : HeaderPlaces). Refused (Encoding at (p.sentinel + 1))) tests.before.before.before.places_of.ensures
+    ∙ sym ((refused_exactly _ _).1 (here (fails _ _ tests.before.encoding-fits.ensures d1.if1.true)))
+
+pub returns-then-not-reached : goal.returns-then-not-reached
+unfolding last_rules
+returns-then-not-reached c =
+    let d2 = c in let d1 = d2.before in let tests = d1.before in
+    c.refused_at-then-not-reached.ensures ∙ ap (λ (p : HeaderPlaces). Refused (ImageLength at p.end.place)) tests.before.before.before.places_of.ensures
+    ∙ sym ((refused_exactly _ _).1 (later (holds _ _ tests.before.encoding-fits.ensures d1.if1.false) (here (fails _ _ tests.end-fits.ensures d2.if2.true))))
+
+pub returns : goal.returns
+unfolding last_rules
+returns c =
+    let d1 = c in let tests = d1.before in
+    sym ((accepted_exactly (last_rules _)).1 (both (holds _ _ tests.before.encoding-fits.ensures d1.if1.false) (both (holds _ _ tests.end-fits.ensures c.if-not-reached.false) none)))

@@ -1,0 +1,125 @@
+use borrow.Rule.Slice.PartMut.{same_len_mid}
+use Prim.Native.Nat.{ℕ, ◌+◌, ◌-◌, ◌≤◌}
+use mathlib.Core.Path.{◌≡◌, refl, sym, ap, ◌∙◌, subst}
+use mathlib.Core.List.{List, ◌++◌}
+use native.Mathlib.Omega.{arith}
+use lib.ListN.{length, take, drop, length-take, length-drop}
+use Rattle.keys.specs.Search.{joined}
+use Rattle.laws.specs.Front.{fronted}
+use Rattle.tree.proofs.Ways.{leads_nowhere}
+use Rattle.block.specs.Block.{checked_block, block_bytes}
+use Rattle.block.specs.declared.Checked.TheVariants.{Block}
+use Rattle.node.specs.Content.{number_at, numbers_from}
+use Rattle.node.specs.Steps.{IsListed, AllListed, bytes_at}
+use Rattle.node.proofs.Numbers.{rest, rest_all, rest_at, joined_rest, joined_none, number_inside}
+use Rattle.node.proofs.Kids.{bytes_here}
+use Rattle.laws.proofs.Running.{room_left, left_on, stands_on, stands_whole}
+use Rattle.block.proofs.BlockLaws.{checked_inside, checked_large, bytes_length}
+use Rattle.node.proofs.gather.Goals as goal
+
+-- the block of the i-th number: its bytes are the next to come, and there is room for them
+block_is : (c : tie.After-listed-at invariant-loop decreases-loop) →
+    let a = c.before.before.before.before.before.before.before.before.before.args in
+    checked_block a.e a.image.now (number_at a.e.tree a.root.now c.before.before.before.before.loop.i) ≡ Block c.listed_at.result
+block_is c =
+    let a = c.before.before.before.before.before.before.before.before.before.args in
+    sym (ap (checked_block a.e a.image.now) c.before.before.number_at.ensures) ∙ c.listed_at.ensures
+
+next-left : (c : tie.After-listed-at invariant-loop decreases-loop) →
+    let a = c.before.before.before.before.before.before.before.before.before.args in
+    let l = c.before.before.before.before.loop in
+    drop l.n (joined (bytes_at a.e a.image.now) (numbers_from a.e.tree a.root.now 0 a.count))
+    ≡ block_bytes a.image.now c.listed_at.result ++ joined (bytes_at a.e a.image.now) (rest a.e.tree a.root.now a.count (l.i + 1))
+next-left c =
+    let a = c.before.before.before.before.before.before.before.before.before.args in
+    let l = c.before.before.before.before.loop in
+    l.invariant.4
+    ∙ joined_rest (bytes_at a.e a.image.now) a.e.tree a.root.now a.count l.i (omega arith)
+    ∙ ap (λ (s : List ℕ). s ++ joined (bytes_at a.e a.image.now) (rest a.e.tree a.root.now a.count (l.i + 1))) (bytes_here a.e a.image.now _ _ (block_is c))
+
+size_is : (c : tie.After-listed-at invariant-loop decreases-loop) → length (block_bytes c.before.before.before.before.before.before.before.before.before.args.image.now c.listed_at.result) ≡ c.listed_at.result.size
+size_is c = bytes_length _ _ (checked_inside _ _ _ _ (block_is c))
+
+space : (c : tie.After-listed-at invariant-loop decreases-loop) →
+    let a = c.before.before.before.before.before.before.before.before.before.args in
+    c.before.before.before.before.loop.n + c.listed_at.result.size ≤ length (joined (bytes_at a.e a.image.now) (numbers_from a.e.tree a.root.now 0 a.count))
+space c =
+    let a = c.before.before.before.before.before.before.before.before.before.args in
+    let l = c.before.before.before.before.loop in
+    omega (arith, size_is c, room_left _ (block_bytes a.image.now c.listed_at.result) _ l.n l.invariant.1 (next-left c))
+
+pub check_root-start-requires : goal.check_root-start-requires
+check_root-start-requires c = (c.requires.0.0.blocks, c.requires.0.4)
+
+pub loop-i-init : goal.loop-i-init
+loop-i-init c =
+    let a = c.args in
+    let same = sym (rest_all a.e.tree a.root.now a.count) in
+    (omega arith, omega arith, refl, subst (AllListed a.e a.image.now) same c.requires.0.3, ap (joined (bytes_at a.e a.image.now)) same, refl, c.check_root-start.ensures, leads_nowhere a.e.blocks a.image.now _ _ _ _)
+
+pub number_at-child-requires : goal.number_at-child-requires
+number_at-child-requires c =
+    let start = c in
+    (start.requires.0.0.tree, number_inside start.args.e.tree.word start.args.count c.loop-i.i start.args.root.now start.requires.0.1 c.loop-i-test.true, omega arith)
+
+pub way_to-way-requires : goal.way_to-way-requires
+way_to-way-requires c = (c.requires.0.0.blocks, c.loop-i.invariant.6, c.loop-i.invariant.7)
+
+pub listed_at-b-requires : goal.listed_at-b-requires
+listed_at-b-requires c =
+    let a = c.args in
+    let l = c.loop-i in
+    (c.requires.0.0, subst (IsListed a.e a.image.now) (sym c.number_at-child.ensures) (subst (AllListed a.e a.image.now) (rest_at a.e.tree a.root.now a.count l.i (omega arith)) l.invariant.3).0, c.way_to-way.ensures.1, c.way_to-way.ensures.0)
+
+pub slice_bounds-block_into-count : goal.slice_bounds-block_into-count
+slice_bounds-block_into-count c = omega arith
+
+pub slice_bounds-block_into-start : goal.slice_bounds-block_into-start
+slice_bounds-block_into-start c = omega arith
+
+pub slice_bounds-block_into-end : goal.slice_bounds-block_into-end
+slice_bounds-block_into-end c = omega arith
+
+pub block_into-requires : goal.block_into-requires
+block_into-requires c =
+    let d = c in
+    (checked_large _ _ _ _ (block_is d), checked_inside _ _ _ _ (block_is d), simp (length-take, length-drop) (omega (arith, space d, d.before.before.before.before.loop.invariant.2, d.before.before.before.before.before.before.before.before.before.requires.1)))
+
+pub overflow_add-n : goal.overflow_add-n
+overflow_add-n c = let start = c in omega (arith, space c, start.requires.1, start.well-formed.1.1.1.1.0)
+
+pub overflow_add-i : goal.overflow_add-i
+overflow_add-i c = omega arith
+
+pub loop-i-smaller : goal.loop-i-smaller
+loop-i-smaller c = omega arith
+
+pub loop-i-preserved : goal.loop-i-preserved
+loop-i-preserved c =
+    let a = c.args in
+    let l = c.loop-i in
+    let d = c in
+    let e = c.block_into in
+    let s = block_bytes a.image.now d.listed_at.result in
+    let whole = joined (bytes_at a.e a.image.now) (numbers_from a.e.tree a.root.now 0 a.count) in
+    let more = joined (bytes_at a.e a.image.now) (rest a.e.tree a.root.now a.count (l.i + 1)) in (
+      omega arith,
+      omega (arith, space d),
+      same_len_mid l.n (length l.out - l.n) l.out e.new.1.1.0 e.auto.1.1.0 ∙ l.invariant.2,
+      (subst (AllListed a.e a.image.now) (rest_at a.e.tree a.root.now a.count l.i (omega arith)) l.invariant.3).1,
+      ap (λ (k : ℕ). drop (l.n + k) whole) (sym (size_is d)) ∙ left_on whole s more l.n l.invariant.1 (next-left d),
+      ap (λ (x : List ℕ). take l.n l.out ++ (x ++ drop (length l.out - l.n) (drop l.n l.out))) e.ensures
+          ∙ stands_on whole s more l.n l.invariant.1 (next-left d) a.out.now l.out l.invariant.5
+          ∙ ap (λ (k : ℕ). fronted (take (l.n + k) whole) a.out.now) (size_is d),
+      l.invariant.6,
+      d.before.way-to.ensures.1,
+    )
+
+pub shape_of-out : goal.shape_of-out
+shape_of-out c = c.loop-i.invariant.2
+
+pub returns : goal.returns
+returns c =
+    let a = c.args in
+    let l = c.loop-i in
+    stands_whole _ a.out.now l.out l.n l.invariant.1 (l.invariant.4 ∙ joined_none (bytes_at a.e a.image.now) a.e.tree a.root.now a.count l.i (omega arith)) l.invariant.5

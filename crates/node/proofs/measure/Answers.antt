@@ -1,0 +1,75 @@
+use Rattle.tree.proofs.Ways.{leads_nowhere}
+use Rattle.block.specs.Block.{checked_block}
+use Prim.Native.Nat.{ℕ, ◌+◌, ◌-◌}
+use mathlib.Core.Path.{sym, ap, ◌∙◌}
+use mathlib.Core.List.{List}
+use native.Mathlib.Omega.{arith}
+use Rattle.node.specs.Content.{number_at, kids_of}
+use Rattle.node.specs.Steps.{measured_in}
+use Rattle.node.proofs.Numbers.{rest, rest_all, rest_at, rest_none, number_inside}
+use Rattle.node.proofs.Kids.{add_to, add_none, measure_on, measure_ends, measure_done}
+use Rattle.block.proofs.BlockLaws.{checked_size}
+use Rattle.node.proofs.measure.Goals as goal
+
+pub check_root-start-requires : goal.check_root-start-requires
+check_root-start-requires c = (c.requires.0.blocks, c.requires.3)
+
+pub loop-i-init : goal.loop-i-init
+loop-i-init c =
+    let a = c.args in
+    (omega arith, omega arith, sym (ap (λ (ns : List ℕ). add_to 0 (measured_in (kids_of a.e a.image.now ns))) (rest_all a.e.tree a.root.now a.count) ∙ add_none _), c.check_root-start.ensures, leads_nowhere a.e.blocks a.image.now _ _ _ _)
+
+pub number_at-number-requires : goal.number_at-number-requires
+number_at-number-requires c =
+    let start = c in
+    (start.requires.0.tree, number_inside start.args.e.tree.word start.args.count c.loop-i.i start.args.root.now start.requires.1 (omega arith), omega arith)
+
+pub way_to-way-requires : goal.way_to-way-requires
+way_to-way-requires c = (c.requires.0.blocks, c.loop-i.invariant.3, c.loop-i.invariant.4)
+
+pub check_block_at-checked-requires : goal.check_block_at-checked-requires
+check_block_at-checked-requires c = (c.requires.0, c.way_to-way.ensures.1, c.way_to-way.ensures.0)
+
+pub returns-in_default : goal.returns-in_default
+returns-in_default c =
+    let a = c.args in
+    let l = c.loop-i in
+    c.refused_measure.ensures
+    ∙ measure_ends a.e a.image.now (number_at a.e.tree a.root.now l.i) (rest a.e.tree a.root.now a.count (l.i + 1)) l.sum _ _
+    (c.check_block_at-checked.ensures ∙ ap (checked_block a.e a.image.now) c.number_at-number.ensures) c.in_default.is
+    ∙ ap (λ (ns : List ℕ). add_to l.sum (measured_in (kids_of a.e a.image.now ns))) (sym (rest_at a.e.tree a.root.now a.count l.i (omega arith)))
+    ∙ sym l.invariant.2
+
+pub overflow_add-sum : goal.overflow_add-sum
+overflow_add-sum c =
+    let start = c in
+    let a = start.args in
+    let l = c.loop-i in
+    omega (arith, start.requires.0.trailer.most, checked_size a.e a.image.now _ _ (sym (ap (checked_block a.e a.image.now) c.number_at-number.ensures) ∙ sym c.check_block_at-checked.ensures ∙ c.in-Block.is))
+
+pub overflow_add-i : goal.overflow_add-i
+overflow_add-i c = omega arith
+
+pub loop-i-smaller : goal.loop-i-smaller
+loop-i-smaller c = omega arith
+
+pub loop-i-preserved : goal.loop-i-preserved
+loop-i-preserved c =
+    let start = c in
+    let a = start.args in
+    let l = c.loop-i in
+    let more = c.loop-i-test.true in (
+      omega (arith, more),
+      omega (arith, start.requires.0.trailer.most, checked_size a.e a.image.now _ _ (sym (ap (checked_block a.e a.image.now) c.number_at-number.ensures) ∙ sym c.check_block_at-checked.ensures ∙ c.in-Block.is)),
+      l.invariant.2
+          ∙ ap (λ (ns : List ℕ). add_to l.sum (measured_in (kids_of a.e a.image.now ns))) (rest_at a.e.tree a.root.now a.count l.i more)
+          ∙ measure_on a.e a.image.now (number_at a.e.tree a.root.now l.i) (rest a.e.tree a.root.now a.count (l.i + 1)) l.sum _ (sym (ap (checked_block a.e a.image.now) c.number_at-number.ensures) ∙ sym c.check_block_at-checked.ensures ∙ c.in-Block.is),
+      l.invariant.3,
+      c.way_to-way.ensures.1,
+    )
+
+pub returns : goal.returns
+returns c =
+    let a = c.args in
+    let l = c.loop-i in
+    measure_done a.e a.image.now (rest a.e.tree a.root.now a.count l.i) l.sum (rest_none a.e.tree a.root.now a.count l.i (omega arith)) ∙ sym l.invariant.2

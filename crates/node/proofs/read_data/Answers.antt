@@ -1,0 +1,25 @@
+use mathlib.Core.Path.{sym, ◌∙◌}
+use Rattle.node.proofs.Outcomes.{outcome_of, data_none, data_refused, data_block, none_outcome, refused_outcome, refused_read_is}
+use Rattle.block.proofs.BlockLaws.{checked_large, checked_inside}
+use Rattle.node.proofs.read_data.Goals as goal
+
+pub returns-then-cleared-eq0 : goal.returns-then-cleared-eq0
+returns-then-cleared-eq0 c =
+    let a = c.args in
+    outcome_of _ _ a.out.now _ _ (data_none a.e a.image.now a.number (sym c.cleared.ensures ∙ c.if-cleared-eq0.true)) (none_outcome a.out.now)
+
+pub returns-in_default : goal.returns-in_default
+returns-in_default c =
+    let a = c.args in
+    let told = c.in_default.is in
+    let o = outcome_of _ _ a.out.now _ _ (data_refused a.e a.image.now a.number _ (λ e. c.if-cleared-eq0.false (c.cleared.ensures ∙ e)) (sym c.check_block_in-checked.ensures ∙ told)) (refused_outcome _ a.out.now) in
+    (c.refused_data.ensures ∙ refused_read_is _ _ told ∙ o.0, o.1)
+
+pub read_listed-requires : goal.read_listed-requires
+read_listed-requires c = let start = c in (start.requires.0, checked_large _ _ _ _ (sym c.check_block_in-checked.ensures ∙ c.in-Block.is), checked_inside _ _ _ _ (sym c.check_block_in-checked.ensures ∙ c.in-Block.is), start.requires.1)
+
+pub returns : goal.returns
+returns c =
+    let a = c.args in
+    let told = c.read_listed.ensures in
+    outcome_of _ _ a.out.now _ _ (data_block a.e a.image.now a.number _ (λ e. c.if-cleared-eq0.false (c.cleared.ensures ∙ e)) (sym c.check_block_in-checked.ensures ∙ c.in-Block.is)) (told.0, told.1)

@@ -1,0 +1,11 @@
+use mathlib.Core.Path.{refl}
+use native.Mathlib.Omega.{arith}
+use Rattle.le.specs.Bytes.{byte}
+use Rattle.page.proofs.count_at.Goals as goal
+
+pub overflow_cast-result : goal.overflow_cast-result
+overflow_cast-result c = omega (arith, c.shared_slice_known-1.given c.args.place)
+
+pub returns : goal.returns
+unfolding byte
+returns c = (refl, omega (arith, c.shared_slice_known-1.given c.args.place))

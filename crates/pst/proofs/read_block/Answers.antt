@@ -1,0 +1,24 @@
+use mathlib.Core.Path.{◌≡◌, sym, ap, subst, ◌∙◌}
+use lib.ListN.{length}
+use Rattle.edition.specs.declared.Edition.{Edition}
+use Rattle.edition.specs.Fair.{FairEdition}
+use Rattle.header.proofs.EditionLaws.{fair_edition}
+use Rattle.block.specs.Block.{read_of, filled_of}
+use Rattle.pst.specs.Meaning.{sized_means}
+use Rattle.pst.specs.Outcomes.{read_outcome, read_buffer}
+use Rattle.pst.proofs.read_block.Goals as goal
+
+pub read_block-requires : goal.read_block-requires
+read_block-requires c = subst FairEdition (sym c.edition_of.ensures) (fair_edition _)
+
+pub returns : goal.returns
+unfolding read_outcome read_buffer
+returns c =
+    let called = c in
+    let chosen = called.before.before in
+    let a = chosen.before.before.before.args in
+    let done = called.read_block.ensures in
+    let choice = chosen.edition-of.ensures in
+    let e = chosen.edition-of.result in
+    let answer : called.read_block.result ≡ read_of e a.image.now a.block (length a.out.now) = done.0 in
+    (ap sized_means (answer ∙ ap (λ (e : Edition). read_of e a.image.now a.block (length a.out.now)) choice), done.1 ∙ ap (λ (e : Edition). filled_of e a.image.now a.block a.out.now) choice)

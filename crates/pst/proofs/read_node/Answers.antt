@@ -1,0 +1,24 @@
+use mathlib.Core.Path.{◌≡◌, sym, ap, subst, ◌∙◌}
+use lib.ListN.{length}
+use Rattle.edition.specs.declared.Edition.{Edition}
+use Rattle.edition.specs.Fair.{FairEdition}
+use Rattle.header.proofs.EditionLaws.{fair_edition}
+use Rattle.node.specs.Content.{node_content, answer_to, filled_by}
+use Rattle.pst.specs.Meaning.{data_means}
+use Rattle.pst.specs.Outcomes.{data_outcome, data_buffer}
+use Rattle.pst.proofs.read_node.Goals as goal
+
+pub read_node-requires : goal.read_node-requires
+read_node-requires c = subst FairEdition (sym c.edition_of.ensures) (fair_edition _)
+
+pub returns : goal.returns
+unfolding data_outcome data_buffer
+returns c =
+    let called = c in
+    let chosen = called.before.before in
+    let a = chosen.before.before.before.args in
+    let done = called.read_node.ensures in
+    let choice = chosen.edition-of.ensures in
+    let e = chosen.edition-of.result in
+    let answer : called.read_node.result ≡ answer_to (node_content e a.image.now a.node) (length a.out.now) = done.0 in
+    (ap data_means (answer ∙ ap (λ (e : Edition). answer_to (node_content e a.image.now a.node) (length a.out.now)) choice), done.1 ∙ ap (λ (e : Edition). filled_by (node_content e a.image.now a.node) a.out.now) choice)

@@ -1,0 +1,11 @@
+use mathlib.Core.Path.{sym, ap}
+use Rattle.rkw.specs.Answers.{item_answer}
+use Rattle.rkw.proofs.item_answer.Goals as goal
+
+pub returns-in-Within : goal.returns-in-Within
+unfolding item_answer
+returns-in-Within c = ap item_answer (sym c.in-Within.is)
+
+pub returns-in-Refused : goal.returns-in-Refused
+unfolding item_answer
+returns-in-Refused c = rw (c.number_in.ensures, c.in-Refused.is)

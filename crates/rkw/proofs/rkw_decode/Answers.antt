@@ -1,0 +1,11 @@
+use mathlib.Core.Path.{ap, ◌∙◌}
+use Rattle.pst.proofs.Answered.{code_is, decode_buffer_is}
+use Rattle.rkw.specs.Answers.{verdict_answer}
+use Rattle.rkw.proofs.rkw_decode.Goals as goal
+
+pub returns : goal.returns
+returns c =
+    (
+      c.verdict_answer.ensures ∙ ap verdict_answer (code_is _ _ c.decode.ensures.0),
+      c.decode.ensures.1 ∙ decode_buffer_is _ _ _,
+    )

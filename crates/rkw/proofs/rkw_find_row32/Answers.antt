@@ -1,0 +1,7 @@
+use mathlib.Core.Path.{ap, ◌∙◌}
+use Rattle.pst.proofs.Answered.{row32_is}
+use Rattle.rkw.specs.Tables.{row_answer}
+use Rattle.rkw.proofs.rkw_find_row32.Goals as goal
+
+pub returns : goal.returns
+returns c = c.row_answer.ensures ∙ ap row_answer (row32_is _ _ _ c.find_row32.ensures)

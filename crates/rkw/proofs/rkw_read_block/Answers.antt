@@ -1,0 +1,11 @@
+use mathlib.Core.Path.{ap, ◌∙◌}
+use Rattle.pst.proofs.Answered.{read_is, read_buffer_is}
+use Rattle.rkw.specs.Answers.{length_answer}
+use Rattle.rkw.proofs.rkw_read_block.Goals as goal
+
+pub returns : goal.returns
+returns c =
+    (
+      c.length_answer.ensures ∙ ap length_answer (read_is _ _ _ _ c.read_block.ensures.0),
+      c.read_block.ensures.1 ∙ read_buffer_is _ _ _,
+    )

@@ -1,0 +1,60 @@
+use mathlib.Core.Path.{◌≡◌, sym, ap, ◌∙◌}
+use Prim.Native.Nat.{ℕ}
+use native.Mathlib.Omega.{arith}
+use Rattle.refusal.specs.declared.Fault.TheVariants.{ShortBuffer}
+use Rattle.refusal.specs.Order.{◌needing◌}
+use Rattle.columns.specs.Record.{column_count}
+use Rattle.table.specs.Context.{table_record}
+use Rattle.table.proofs.ContextLaws.{record_long}
+use Rattle.cells.specs.Rows.{row_bytes, row_count}
+use Rattle.cells.proofs.HeldLaws.{rows_exactly}
+use Rattle.rowcells.specs.declared.RowRead.TheVariants.{Cells, Refused}
+use Rattle.rowcells.proofs.ReadLaws.{read_absent, area_absent, read_short, area_kept, read_cells, area_filled}
+use Rattle.rowcells.proofs.read_in.Goals as goal
+
+-- the counts that were read are the table's
+count_told : (s : tie.After-row-count) → s.row_count.result ≡ row_count (table_record s.before.before.before.before.before.args.block.now) (row_bytes s.before.before.before.before.before.args.block.now s.before.before.before.before.before.args.rows.now)
+count_told s = s.row_count.ensures ∙ ap (row_count (table_record s.before.before.before.before.before.args.block.now)) s.before.row-bytes.ensures
+
+columns-told : (s : tie.After-column-count) → s.column-count.result ≡ column_count (table_record s.before.before.before.before.before.before.before.before.args.block.now)
+columns-told s = s.column-count.ensures.0 ∙ ap column_count s.before.record_of.ensures
+
+pub row_bytes-requires : goal.row_bytes-requires
+row_bytes-requires c = (rows_exactly _ _).0 c.requires
+
+pub row_count-requires : goal.row_count-requires
+row_count-requires c = ((rows_exactly _ _).0 c.requires).0
+
+pub returns-then-row_count-i : goal.returns-then-row_count-i
+returns-then-row_count-i c =
+    let a = c.args in
+    let held = c.requires in
+    (sym (read_absent _ _ _ held (omega (arith, count_told c)) _), sym (area_absent _ _ _ held (omega (arith, count_told c)) a.places.now))
+
+pub record_of-requires : goal.record_of-requires
+record_of-requires c = ((rows_exactly _ _).0 c.requires).0
+
+pub column_count-count-requires : goal.column_count-count-requires
+column_count-count-requires c = rw c.record_of.ensures (record_long _ ((rows_exactly _ _).0 c.requires).0)
+
+pub returns-then-places-count : goal.returns-then-places-count
+returns-then-places-count c =
+    let a = c.args in
+    let held = c.requires in
+    let many = columns-told c in (
+      c.short_area.ensures ∙ ap (λ (n : ℕ). Refused (ShortBuffer needing n)) many ∙ sym (read_short _ _ _ held (omega (arith, count_told c)) _ (omega (arith, many))),
+      sym (area_kept _ _ _ held (omega (arith, count_told c)) a.places.now (omega (arith, many))),
+    )
+
+pub fill-requires : goal.fill-requires
+fill-requires c =
+    (c.requires, omega (arith, count_told c), omega (arith, columns-told c))
+
+pub returns : goal.returns
+returns c =
+    let a = c.args in
+    let held = c.requires in
+    let many = columns-told c in (
+      ap Cells many ∙ sym (read_cells _ _ _ held (omega (arith, count_told c)) _ (omega (arith, many))),
+      c.fill.ensures ∙ sym (area_filled _ _ _ held (omega (arith, count_told c)) a.places.now (omega (arith, many))),
+    )

@@ -1,0 +1,14 @@
+use Rattle.tree.specs.Answers.{as_block}
+use Rattle.tree.proofs.as_block.Goals as goal
+
+pub returns-in-Entry : goal.returns-in-Entry
+unfolding as_block
+returns-in-Entry c = rw c.in-Entry.is
+
+pub returns-in-Absent : goal.returns-in-Absent
+unfolding as_block
+returns-in-Absent c = rw c.in-Absent.is
+
+pub returns-in-Refused : goal.returns-in-Refused
+unfolding as_block
+returns-in-Refused c = rw c.in-Refused.is

@@ -1,0 +1,16 @@
+use Prim.Native.Nat.{ℕ}
+use mathlib.Core.Path.{ap, ◌∙◌}
+use Rattle.tree.specs.Answers.{shown, as_block, block_of}
+use Rattle.tree.specs.Ways.{at_end}
+use Rattle.tree.proofs.block_at.Goals as goal
+
+pub returns : goal.returns
+unfolding block_of
+returns c =
+    let start = c in
+    let a = start.args in
+    c.as_block.ensures
+    ∙ ap as_block
+    (c.end_of.ensures
+    ∙ ap (λ (k : ℕ). shown a.l (at_end a.l a.image.now a.way k)) c.compared.ensures
+    ∙ ap (shown a.l) start.requires.2)

@@ -1,0 +1,29 @@
+use mathlib.Core.Path.{sym, ap, ◌∙◌}
+use native.Mathlib.Omega.{arith}
+use Rattle.header.proofs.HeaderLaws.{header_length}
+use Rattle.tree.proofs.Walk.{accepted_offset}
+use Rattle.tree.proofs.Steps.{root_refused, root_on}
+use Rattle.keys.specs.declared.Sought.TheVariants.{AtLeast}
+use Rattle.tree.specs.Answers.{shown}
+use Rattle.tree.proofs.find_next.Goals as goal
+
+pub returns-in-Refused : goal.returns-in-Refused
+unfolding shown
+returns-in-Refused c =
+    let a = c.args in
+    ap (shown a.l) (root_refused a.l a.image.now AtLeast a.from _ c.check_header-verdict.ensures _ c.in-Refused.is)
+
+pub root_link-p-requires : goal.root_link-p-requires
+root_link-p-requires c = (c.requires, header_length _ (sym c.check_header-verdict.ensures ∙ c.in_default.is))
+
+pub seek-requires : goal.seek-requires
+seek-requires c =
+    let a = c.args in
+    (c.requires, (λ ok. sym (c.stated_level-level.ensures.0 (accepted_offset a.l a.image.now c.root_link-p.result ok))), c.stated_level-level.ensures.1, omega (arith, c.stated_level-level.ensures.1))
+
+pub returns : goal.returns
+returns c =
+    let a = c.args in
+    c.seek.ensures
+    ∙ ap (shown a.l)
+    (root_on a.l a.image.now AtLeast a.from _ c.check_header-verdict.ensures _ _ _ c.in_default.is c.root_link-p.ensures c.as_given.ensures c.stated_level-level.ensures.0)

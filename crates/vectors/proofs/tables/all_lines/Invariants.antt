@@ -1,0 +1,9 @@
+use Prim.Native.Nat.{◌≤◌, ◌-◌}
+use lib.ListN.{length}
+use Rattle.vectors.proofs.tables.all_lines.Given as goal
+
+abbrev pub invariant-loop-table : goal.invariant-loop-table
+invariant-loop-table l = l.at ≤ length l.letters
+
+abbrev pub decreases-loop-table : goal.decreases-loop-table
+decreases-loop-table l = 8 - l.table
