@@ -18,9 +18,9 @@ digit_mul x y hx hy =
     digit_cases (λ x. bit_xor x y * polynomial ≡ bit_xor (x * polynomial) (y * polynomial)) refl
     (digit_cases (λ y. bit_xor 1 y * polynomial ≡ bit_xor (1 * polynomial) (y * polynomial)) refl refl y hy) x hx
 
-bit_xor : (a b : ℕ) → bit (bit_xor a b) ≡ bit_xor (bit a) (bit b)
+bit_of_xor : (a b : ℕ) → bit (bit_xor a b) ≡ bit_xor (bit a) (bit b)
 unfolding bit
-bit_xor a b =
+bit_of_xor a b =
     ap₂ (λ (x y : ℕ). bit_xor x (y * polynomial)) (xor_shr a b 1) (xor_mod a b 1)
     ∙ ap (bit_xor (bit_xor (a / 2) (b / 2))) (digit_mul (a % 2) (b % 2) (omega arith) (omega arith))
     ∙ xor_swap (a / 2) (b / 2) (a % 2 * polynomial) (b % 2 * polynomial)
@@ -28,7 +28,7 @@ bit_xor a b =
 pub bits_xor : (n a b : ℕ) → bits n (bit_xor a b) ≡ bit_xor (bits n a) (bits n b)
 unfolding bits
 bits_xor zero a b = refl
-bits_xor (suc n) a b = ap (bits n) (bit_xor a b) ∙ bits_xor n (bit a) (bit b)
+bits_xor (suc n) a b = ap (bits n) (bit_of_xor a b) ∙ bits_xor n (bit a) (bit b)
 
 -- n bits fall out of a number that has none
 pub bits_shift : (n h : ℕ) → bits n (h * 2 ^ n) ≡ h

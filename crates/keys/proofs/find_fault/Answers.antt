@@ -2,8 +2,7 @@ use mathlib.Core.List.{[]}
 use Prim.Native.Nat.{◌+◌, ◌-◌}
 use mathlib.Core.Path.{sym, ◌∙◌}
 use native.Mathlib.Omega.{arith}
-use lib.Dec.{ltb}
-use borrow.Author.Tests.{not-true, not-false}
+use borrow.Author.Tests.{lt-ltb, le-ltb}
 use Rattle.keys.specs.Records.{keys_of}
 use Rattle.keys.proofs.OrderLaws.{ordered_none, first_outside, first_inside, after_none, next_unordered, next_outside, next_climbs}
 use Rattle.keys.proofs.RecordLaws.{keys_from, keys_all, keys_none, keys_read, keys_first, holds_fewer}
@@ -42,14 +41,14 @@ returns-then-not-above c =
     let a = c.args in
     let l = c.loop-i in
     let k = c.key_at-key in
-    sym (l.invariant.2 ∙ next_unordered a.range (keys_from a.shape a.count a.bytes.now l.i) (keys_from a.shape a.count a.bytes.now (l.i + 1)) k.result l.i l.last (keys_read a.shape a.count a.bytes.now l.i k.result k.ensures (omega arith)) (not-true (ltb l.last k.result) c.if-not-above.true))
+    sym (l.invariant.2 ∙ next_unordered a.range (keys_from a.shape a.count a.bytes.now l.i) (keys_from a.shape a.count a.bytes.now (l.i + 1)) k.result l.i l.last (keys_read a.shape a.count a.bytes.now l.i k.result k.ensures (omega arith)) (le-ltb l.last k.result c.if-not-above.true))
 
 pub returns-then-not-inside : goal.returns-then-not-inside
 returns-then-not-inside c =
     let a = c.args in
     let l = c.loop-i in
     let k = c.key_at-key in
-    sym (l.invariant.2 ∙ next_outside a.range (keys_from a.shape a.count a.bytes.now l.i) (keys_from a.shape a.count a.bytes.now (l.i + 1)) k.result l.i l.last (keys_read a.shape a.count a.bytes.now l.i k.result k.ensures (omega arith)) (not-false (ltb l.last k.result) c.if-not-above.false) (fails _ _ c.in_range-inside.ensures c.if-not-inside.true))
+    sym (l.invariant.2 ∙ next_outside a.range (keys_from a.shape a.count a.bytes.now l.i) (keys_from a.shape a.count a.bytes.now (l.i + 1)) k.result l.i l.last (keys_read a.shape a.count a.bytes.now l.i k.result k.ensures (omega arith)) (lt-ltb l.last k.result c.if-not-above.false) (fails _ _ c.in_range-inside.ensures c.if-not-inside.true))
 
 pub overflow_add-i : goal.overflow_add-i
 overflow_add-i c = omega arith
@@ -64,7 +63,7 @@ loop-i-preserved c =
     let k = c.key_at-key in (
       omega arith,
       omega arith,
-      l.invariant.2 ∙ next_climbs a.range (keys_from a.shape a.count a.bytes.now l.i) (keys_from a.shape a.count a.bytes.now (l.i + 1)) k.result l.i l.last (keys_read a.shape a.count a.bytes.now l.i k.result k.ensures (omega arith)) (not-false (ltb l.last k.result) c.if-not-above.false) (holds _ _ c.in_range-inside.ensures c.if-not-inside.false),
+      l.invariant.2 ∙ next_climbs a.range (keys_from a.shape a.count a.bytes.now l.i) (keys_from a.shape a.count a.bytes.now (l.i + 1)) k.result l.i l.last (keys_read a.shape a.count a.bytes.now l.i k.result k.ensures (omega arith)) (lt-ltb l.last k.result c.if-not-above.false) (holds _ _ c.in_range-inside.ensures c.if-not-inside.false),
     )
 
 pub returns : goal.returns
