@@ -1,11 +1,12 @@
 // Files of hexadecimal text that list what is expected, and lines of output that say whether it is so.
 #![tactic(auto)]
 
-ghost use Rattle.std.specs.Prelude.{◌≤◌, ◌<◌, length};
-ghost use Rattle.io.specs.Counts.{IsPrefixLen};
+ghost use Rattle.std.specs.Prelude.{◌≤◌, ◌<◌, length, IfOk};
+ghost use Rattle.std.specs.Counts.{IsPrefixLen};
 
-use libc::STDOUT_FILENO;
 use said::Loaded;
+use std::io;
+use std::rt::Files;
 
 // What a hexadecimal digit in lower case stands for; 16 for anything else.
 fn digit(character: u8) -> u8
@@ -51,17 +52,21 @@ pub fn unhex(text: &[u8], out: &mut [u8]) -> usize
 }
 
 // The bytes that a file of digits stands for, at the front of `out`.
-pub fn load_hex(name: &[u8], out: &mut [u8]) -> Loaded
-    ensures { IsPrefixLen result.size out.new }
+pub fn load_hex(
+    rt: &(impl Files + Print + Eprint),
+    name: &[u8],
+    out: &mut [u8],
+) -> io::Result<Loaded>
+    ensures { IfOk result (λ loaded. IsPrefixLen loaded.size out.new) }
 {
-    let mut letters = io::buffer();
-    let file = said::load(name, &mut letters);
+    let mut letters = [0u8; 4096];
+    let file = said::load(rt, name, &mut letters)?;
     let n = file.size;
     let size = unhex(&letters[..n], out);
-    Loaded {
+    Ok(Loaded {
         whole: file.whole,
         size,
-    }
+    })
 }
 
 fn is_blank(character: u8) -> bool {
@@ -132,23 +137,24 @@ pub fn written(bytes: [u8; 4]) -> u64 {
     (wide(bytes[0]) * 256 + wide(bytes[1])) * 65536 + wide(bytes[2]) * 256 + wide(bytes[3])
 }
 
-fn say_byte(byte: u8) {
-    io::print_hex(STDOUT_FILENO, byte as u64, 2);
+fn say_byte(rt: &impl Print, byte: u8) -> io::Result<()> {
+    print!(rt; "{byte:02x}")
 }
 
-pub fn say_bytes(bytes: &[u8]) {
+pub fn say_bytes(rt: &impl Print, bytes: &[u8]) -> io::Result<()> {
     let mut i: usize = 0;
     while i < bytes.len() {
-        say_byte(bytes[i]);
+        say_byte(rt, bytes[i])?;
         i += 1;
     }
+    Ok(())
 }
 
 // Whether an answer is the one in the file, and the line's end.
-pub fn say_whether(right: bool) {
+pub fn say_whether(rt: &impl Print, right: bool) -> io::Result<()> {
     if right {
-        said::say(b", as listed\n");
+        said::say(rt, b", as listed\n")
     } else {
-        said::say(b", NOT as listed\n");
+        said::say(rt, b", NOT as listed\n")
     }
 }

@@ -2,10 +2,13 @@
 // listing goes on.
 #![tactic(auto)]
 
-ghost use Rattle.io.specs.Counts.{IsPrefixLen};
+ghost use Rattle.std.specs.Prelude.{IfOk};
+ghost use Rattle.std.specs.Counts.{IsPrefixLen};
 
-use libc::{SEEK_END, SEEK_SET, STDOUT_FILENO};
 use refusal::Refusal;
+use std::io::{Read, Seek, SeekFrom};
+use std::rt::Files;
+use std::{fs, io};
 
 // What became of a file: all of its bytes, so many, stand at the buffer's front; or it was not loaded.
 #[derive(Clone, Copy)]
@@ -15,75 +18,95 @@ pub struct Loaded {
 }
 
 // How many bytes the file has, 0 where that cannot be told. It is then read from its start.
-fn length_of(file: i32) -> u64 {
-    let end = libc::lseek(file, 0, SEEK_END);
-    libc::lseek(file, 0, SEEK_SET);
-    if end < 0 {
-        return 0;
-    }
-    end as u64
+fn length_of(file: &mut impl Seek) -> u64 {
+    let end = file.seek(SeekFrom::End(0));
+    let _ = file.rewind();
+    end.unwrap_or(0)
 }
 
+// Reads until the buffer is full, the input ends or a read fails: how many bytes stand at the buffer's front.
+fn read_full(file: &mut impl Read, buffer: &mut [u8]) -> usize
+    ensures { IsPrefixLen result buffer.new }
+{
+    let mut done: usize = 0;
+    while done < buffer.len() {
+        match file.read(&mut buffer[done..]) {
+            Ok(0) | Err(_) => return done,
+            Ok(n) => done += n,
+        }
+    }
+    done
+}
+
+const NOT_LOADED: Loaded = Loaded {
+    whole: false,
+    size: 0,
+};
+
 // Nothing of a file that is longer than the buffer is read.
-fn read_whole(file: i32, path: &[u8], buffer: &mut [u8]) -> Loaded
-    ensures { IsPrefixLen result.size buffer.new }
+fn read_whole(
+    rt: &impl Print,
+    file: &mut (impl Read + Seek),
+    path: &[u8],
+    buffer: &mut [u8],
+) -> io::Result<Loaded>
+    ensures { IfOk result (λ loaded. IsPrefixLen loaded.size buffer.new) }
 {
     let length = length_of(file);
     if length > buffer.len() as u64 {
-        say(path);
-        say_decimal(b": over ", buffer.len() as u64);
-        say(b" bytes, nothing of it is read\n");
-        return Loaded {
-            whole: false,
-            size: 0,
-        };
+        say(rt, path)?;
+        say_decimal(rt, b": over ", buffer.len() as u64)?;
+        say(rt, b" bytes, nothing of it is read\n")?;
+        return Ok(NOT_LOADED);
     }
-    let n = io::read_full(file, buffer);
+    let n = read_full(file, buffer);
     if n as u64 != length {
-        say(path);
-        say(b": not read to its end\n");
-        return Loaded {
-            whole: false,
-            size: 0,
-        };
+        say(rt, path)?;
+        say(rt, b": not read to its end\n")?;
+        return Ok(NOT_LOADED);
     }
-    Loaded {
+    Ok(Loaded {
         whole: true,
         size: n,
-    }
+    })
 }
 
-// Reads a file of the program's folder to the front of the buffer, and says why where it does not.
-pub fn load(path: &[u8], buffer: &mut [u8]) -> Loaded
-    ensures { IsPrefixLen result.size buffer.new }
+// Reads a file of the program's folder to the front of the buffer, and says why where it does not. An error is
+// one of printing.
+pub fn load(
+    rt: &(impl Files + Print + Eprint),
+    path: &[u8],
+    buffer: &mut [u8],
+) -> io::Result<Loaded>
+    ensures { IfOk result (λ loaded. IsPrefixLen loaded.size buffer.new) }
 {
-    let file = os::open_read(path);
-    if file < 0 {
-        os::fail(path);
-        return Loaded {
-            whole: false,
-            size: 0,
-        };
+    let Ok(name) = str::from_utf8(path) else {
+        eprintln!(rt; "{}: the name is no text", path.escape_ascii())?;
+        return Ok(NOT_LOADED);
+    };
+    match fs::open(rt, name) {
+        Ok(mut file) => read_whole(rt, &mut file, path, buffer),
+        Err(error) => {
+            eprintln!(rt; "{name}: {error}")?;
+            Ok(NOT_LOADED)
+        }
     }
-    let loaded = read_whole(file, path, buffer);
-    libc::close(file);
-    loaded
 }
 
-pub fn say(words: &[u8]) {
-    io::write_all(STDOUT_FILENO, words);
+pub fn say(rt: &impl Print, words: &[u8]) -> io::Result<()> {
+    rt.write_all(words)
 }
 
 // A number in decimal, behind some words.
-pub fn say_decimal(words: &[u8], number: u64) {
-    say(words);
-    io::print_decimal(STDOUT_FILENO, number);
+pub fn say_decimal(rt: &impl Print, words: &[u8], number: u64) -> io::Result<()> {
+    say(rt, words)?;
+    rt.print(number)
 }
 
 // A number in hexadecimal, behind some words.
-pub fn say_hex(words: &[u8], number: u64) {
-    say(words);
-    io::print_hex(STDOUT_FILENO, number, 1);
+pub fn say_hex(rt: &impl Print, words: &[u8], number: u64) -> io::Result<()> {
+    say(rt, words)?;
+    print!(rt; "{number:x}")
 }
 
 // Where a listing goes on: one above the number found; 0 where none stands above it.
@@ -94,11 +117,11 @@ pub fn above(number: u64, last: u64) -> u64 {
     0
 }
 
-pub fn say_refusal(wrong: Refusal) {
+pub fn say_refusal(rt: &impl Print, wrong: Refusal) -> io::Result<()> {
     let fault = wrong.fault;
-    say_decimal(b"refused ", refusal::number_of(fault) as u64);
-    say_decimal(b" at place ", wrong.place);
-    say_decimal(b", more ", wrong.more);
+    say_decimal(rt, b"refused ", refusal::number_of(fault) as u64)?;
+    say_decimal(rt, b" at place ", wrong.place)?;
+    say_decimal(rt, b", more ", wrong.more)
 }
 
 // A checksum that goes on over a word's eight bytes, the lowest first.

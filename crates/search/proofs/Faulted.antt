@@ -6,16 +6,16 @@ use mathlib.Core.List.{List, [], ◌∷◌, map, Memᴰ}
 use lib.ListN.{take, drop}
 use Rattle.refusal.specs.declared.Refusal.{Refusal}
 use Rattle.refusal.specs.declared.Verdict.{Verdict}
-use Rattle.refusal.specs.declared.Verdict.TheVariants.{Accepted}
+use Rattle.refusal.specs.declared.Verdict.TheVariants.{Accepted, Refused}
 use Rattle.refusal.specs.Order.{Rule, after, FirstFault}
 use Rattle.refusal.proofs.OrderLaws.{append_fault}
 use Rattle.keys.specs.declared.Seat.{Seat}
-use Rattle.keys.specs.declared.Seat.TheVariants.{At}
+use Rattle.keys.specs.declared.Seat.TheVariants.{At, Nowhere}
 use Rattle.keys.specs.declared.Sought.{Sought}
 use Rattle.keys.specs.declared.Sought.TheVariants.{Equal, AtLeast}
 use Rattle.keys.specs.Search.{joined, last_at_most, start}
 use Rattle.search.specs.SearchTree.{SearchTree, test, children, rules_under, Reached, at_root, below}
-use Rattle.search.specs.Answer.{Answer, absent, where_absent, turns_of}
+use Rattle.search.specs.Answer.{Answer, found, absent, refused, where_absent, turns_of}
 use Rattle.search.specs.Descent.{from_seat, low_in, picked, descend, of_read, rules_read}
 
 -- things that are picked stand among those picked from
@@ -27,10 +27,13 @@ member_drop (suc n) x (y ∷ ys) m = Memᴰ.tail (member_drop n x ys m)
 member_take : {A : Type 0} (n : ℕ) (x : A) (xs : List A) → Memᴰ x (take n xs) → Memᴰ x xs
 member_take (suc n) x (y ∷ ys) (Memᴰ.head e) = Memᴰ.head e
 member_take (suc n) x (y ∷ ys) (Memᴰ.tail m) = Memᴰ.tail (member_take n x ys m)
+member_take zero x xs x3 = elim x3 [ ]
+member_take (suc n) x [] x5 = elim x5 [ ]
 
 member_picked : {B : Type 0} (s : Sought) (seat : Seat) (c : B) (cs : List B) → Memᴰ c (from_seat s seat cs) → Memᴰ c cs
 unfolding from_seat
 member_picked Equal (At i) c cs m = member_drop i c cs (member_take 1 c (drop i cs) m)
+member_picked Equal Nowhere c cs m = elim m [ ]
 member_picked AtLeast seat c cs m = member_drop (start seat) c cs m
 
 -- the first fault of lists in a row is that of one of them
@@ -39,6 +42,7 @@ unfolding joined
 joined_fault list (c ∷ cs) r X f g =
     ⊎_elim (λ (h : FirstFault (list c) r). f c (Memᴰ.head refl) h) (λ (h : FirstFault (joined list cs) r). joined_fault list cs r X (λ d m. f d (Memᴰ.tail m)) h)
     (append_fault (list c) (joined list cs) r g)
+joined_fault list [] r X f g = elim g [ ]
 
 module _ {B E : Type 0} (F : SearchTree B E) (top : ℕ) (root : B) where
   -- a branch that is reached, and the first fault of its rules
@@ -68,10 +72,13 @@ module _ {B E : Type 0} (F : SearchTree B E) (top : ℕ) (root : B) where
     where_fault : (a : Answer E) (rs : List Rule) (r : Refusal) → FirstFault (where_absent a rs) r → FirstFault rs r
     unfolding where_absent
     where_fault (absent n) rs r f = f
+    where_fault (found _ _) rs r f = elim f [ ]
+    where_fault (refused _) rs r f = elim f [ ]
 
     after_fault : (v : Verdict) (rs : List Rule) (r : Refusal) → FirstFault (after (λ s. []) v rs) r → FirstFault rs r
     unfolding after
     after_fault Accepted rs r f = f
+    after_fault (Refused _) rs r f = elim f [ ]
 
     turns_fault : (go : B → Answer E) (list : B → List Rule) (cs : List B) (r : Refusal) (X : Type 0) → ((c : B) → Memᴰ c cs → FirstFault (list c) r → X)
         → FirstFault (turns_of go list cs) r → X
@@ -81,6 +88,7 @@ module _ {B E : Type 0} (F : SearchTree B E) (top : ℕ) (root : B) where
         (λ (h : FirstFault (list c) r). f c (Memᴰ.head refl) h)
         (λ (h : FirstFault (where_absent (go c) (turns_of go list cs)) r). turns_fault go list cs r X (λ d m. f d (Memᴰ.tail m)) (where_fault (go c) (turns_of go list cs) r h))
         (append_fault (list c) _ r g)
+    turns_fault go list [] r X f g = elim g [ ]
 
     read_fault : (l : ℕ) (b : B) (r : Refusal) → Reached F top root l b → FirstFault (rules_read F s k l b) r → FaultOf r
     unfolding of_read

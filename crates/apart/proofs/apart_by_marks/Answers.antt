@@ -47,11 +47,11 @@ loop-i-preserved c =
     let column = c.column_at-column in
     let byte = c.claim_bytes-bytes_free in
     let bit = c.claim-bit_free in
-    let kept = ap length byte.ensures.1 ∙ marked_length _ _ _ in
+    let kept = ap length byte.ensures.marks ∙ marked_length _ _ _ in
     let next : l.i + 1 ≤ column_count t = omega (arith, inv.3) in (
       omega arith,
       kept ∙ inv.1,
-      ap length bit.ensures.1 ∙ marked_length _ _ _ ∙ inv.2,
+      ap length bit.ensures.marks ∙ marked_length _ _ _ ∙ inv.2,
       inv.3,
       inv.4,
       inv.5,
@@ -61,9 +61,9 @@ loop-i-preserved c =
       λ e.
           let marks = and_both (l.sure && byte.result) _ e in
           let first = and_both l.sure _ marks.0 in
-          surely_on t l.i l.bytes l.bits byte.new.0 bit.new.0 column.result (sym column.ensures.0)
-          (λ i h. each_sound t (column_count t) inv.6 i (omega (arith, h, next))) inv.7 (omega (arith, column.ensures.3, inv.2)) byte.ensures.1 bit.ensures.1
-          (inv.9 first.0) (byte.ensures.0 first.1) (bit.ensures.0 marks.1) (λ i j k h. inv.8 i j k (omega (arith, h, next))),
+          surely_on t l.i l.bytes l.bits byte.new.marks bit.new.marks column.result (sym column.ensures.0)
+          (λ i h. each_sound t (column_count t) inv.6 i (omega (arith, h, next))) inv.7 (omega (arith, column.ensures.3, inv.2)) byte.ensures.marks bit.ensures.marks
+          (inv.9 first.0) (byte.ensures.free first.1) (bit.ensures.free marks.1) (λ i j k h. inv.8 i j k (omega (arith, h, next))),
     )
 
 pub shape_of-bytes : goal.shape_of-bytes
@@ -74,4 +74,4 @@ returns c =
     let t = c.args.table.now in
     let l = c.loop-i in
     let all : l.i ≡ column_count t = omega (arith, l.invariant.3) in
-    sym (ap (all_apart t) all) ∙ (l.invariant.9 e).apart
+    λ e. sym (ap (all_apart t) all) ∙ (l.invariant.9 e).apart

@@ -10,4 +10,4 @@ pub apart_surely-requires-then-tags_differ : goal.apart_surely-requires-then-tag
 apart_surely-requires-then-tags_differ c = (c.requires.0, c.requires.1, c.tags_differ.ensures c.if-tags_differ.true)
 
 pub returns : goal.returns
-returns c = not_both false e refl
+returns c = λ e. not_both false e refl

@@ -4,4 +4,4 @@ use Rattle.laws.proofs.Tests.{not_both}
 use Rattle.apart.proofs.apart_surely.Goals as goal
 
 pub returns : goal.returns
-returns c = not_both false e refl
+returns c = λ e. not_both false e refl

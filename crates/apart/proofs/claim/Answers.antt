@@ -50,4 +50,4 @@ returns c =
     let a = c.args in
     let l = c.loop-i in
     let all : l.i ≡ a.count = omega arith in
-    (λ e i h. l.invariant.3 e i (omega (arith, all, h)), l.invariant.2 ∙ ap (marked a.marks.now a.from) all)
+    record { free = λ e i h. l.invariant.3 e i (omega (arith, all, h)); marks = l.invariant.2 ∙ ap (marked a.marks.now a.from) all }

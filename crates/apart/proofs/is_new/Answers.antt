@@ -37,4 +37,4 @@ loop-i-preserved c =
 pub returns : goal.returns
 returns c =
     let l = c.loop-i in
-    l.invariant.1 e i (omega (arith, h))
+    λ e i h. l.invariant.1 e i (omega (arith, h))

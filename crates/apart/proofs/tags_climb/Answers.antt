@@ -17,7 +17,7 @@ returns c =
     let t = a.table.now in
     let count = c.column_count-count.ensures.0 in
     let many = c.column_count-count.result in
-    climb_differ t c.requires c.check_keys.result
+    λ e. climb_differ t c.requires c.check_keys.result
     (c.check_keys.ensures
     ∙ ap₂ (λ (n : ℕ) (s : List ℕ). ordered (record { from = 0; to = Open }) (keys_of column_shape n s)) count (part_is t 22 (8 * many) ∙ ap (λ (n : ℕ). part t 22 (8 * n)) count))
     (sym c.is_climbing.ensures ∙ e)

@@ -52,4 +52,4 @@ loop-i-preserved c =
 pub returns : goal.returns
 returns c =
     let l = c.loop-i in
-    l.invariant.6 e i j k (omega (arith, h, l.invariant.2))
+    λ e i j k h. l.invariant.6 e i j k (omega (arith, h, l.invariant.2))

@@ -8,17 +8,14 @@ use Rattle.block.proofs.test_bytes.Goals as goal
 pub returns-then-not-trailer_fits : goal.returns-then-not-trailer_fits
 unfolding trailer_rules
 returns-then-not-trailer_fits c =
-    let d1 = c in
-    c.refused_at.ensures ∙ sym ((refused_exactly _ _).1 (here (fails _ _ d1.before.trailer-fits.ensures d1.if1.true)))
+    c.refused_at.ensures ∙ sym ((refused_exactly _ _).1 (here (fails _ _ c.trailer_fits.ensures c.if-not-trailer_fits.true)))
 
 pub returns-then-not-sum_fits : goal.returns-then-not-sum_fits
 unfolding trailer_rules
 returns-then-not-sum_fits c =
-    let d2 = c in let d1 = d2.before.before in
-    c.refused_at-then-not-sum_fits.ensures ∙ sym ((refused_exactly _ _).1 (later (holds _ _ d1.before.trailer-fits.ensures d1.if1.false) (here (fails _ _ d2.before.sum-fits.ensures d2.if2.true))))
+    c.refused_at-then-not-sum_fits.ensures ∙ sym ((refused_exactly _ _).1 (later (holds _ _ c.trailer_fits.ensures c.if-not-trailer_fits.false) (here (fails _ _ c.sum_fits.ensures c.if-not-sum_fits.true))))
 
 pub returns : goal.returns
 unfolding trailer_rules
 returns c =
-    let d2 = c in let d1 = d2.before.before in
-    sym ((accepted_exactly (trailer_rules _ _ _ _)).1 (both (holds _ _ d1.before.trailer-fits.ensures d1.if1.false) (both (holds _ _ d2.before.sum-fits.ensures d2.if2.false) none)))
+    sym ((accepted_exactly (trailer_rules _ _ _ _)).1 (both (holds _ _ c.trailer_fits.ensures c.if-not-trailer_fits.false) (both (holds _ _ c.sum_fits.ensures c.if-not-sum_fits.false) none)))

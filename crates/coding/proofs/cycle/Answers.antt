@@ -25,7 +25,7 @@ loop-i-preserved c =
     let l = c.loop-i in (
       simp length-set (omega arith),
       simp length-set l.invariant.1,
-      turn (cyclic l.w) (cyclic c.wrapping_add_u16-w.result) l.bytes l.i c.cyclic_byte.result (omega arith) (cyclic_on l.w _ _ _ (drop (suc l.i) l.bytes) c.cyclic_byte.ensures c.wrapping_add_u16-w.ensures)
+      turn (cyclic l.w) (cyclic c.wrapping_add_u16-w.result) l.bytes l.i c.cyclic_byte.result (omega arith) (cyclic_on l.w _ _ _ (drop (suc l.i) l.bytes) c.cyclic_byte.ensures c.wrapping_add_u16-w.ensures.value)
           ∙ l.invariant.2,
     )
 

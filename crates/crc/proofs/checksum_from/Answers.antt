@@ -12,14 +12,14 @@ cut_length : (s : List ℕ) → length (take (length s / 8 * 8) s) ≡ length s 
 cut_length s = length-take-le (length s / 8 * 8) s (omega arith)
 
 pub slice_bounds-whole_on-end : goal.slice_bounds-whole_on-end
-slice_bounds-whole_on-end c = sym (cut_length c.before.args.bytes.now)
+slice_bounds-whole_on-end c = sym (cut_length c.args.bytes.now)
 
 pub whole_on-sum-requires : goal.whole_on-sum-requires
-whole_on-sum-requires c = omega (arith, cut_length c.before.args.bytes.now)
+whole_on-sum-requires c = omega (arith, cut_length c.args.bytes.now)
 
 pub returns : goal.returns
 returns c =
-    let a = c.before.args in
+    let a = c.args in
     let s = a.bytes.now in
     let cut = length s / 8 * 8 in
     c.rest_on.ensures

@@ -22,13 +22,12 @@ xor-ahead a f l r =
     ∙ sym (xor_assoc (bit_xor a l) r f)
 
 pub loop-i-init : goal.loop-i-init
-loop-i-init c =
-    (
-      omega arith,
-      refl,
-      omega (arith, xor_zero_r c.args.first-low),
-      ap (λ (x : ℕ). checksum_from (bits 64 (x + 4294967296 * c.args.first-high)) c.args.bytes.now) (xor_zero_r c.args.first-low),
-    )
+loop-i-init c = (
+  omega arith,
+  refl,
+  omega (arith, xor_zero_r c.args.first_low),
+  ap (λ (x : ℕ). checksum_from (bits 64 (x + 4294967296 * c.args.first_high)) c.args.bytes.now) (xor_zero_r c.args.first_low),
+)
 
 pub overflow_sub-bytes : goal.overflow_sub-bytes
 overflow_sub-bytes c = omega arith
@@ -50,37 +49,35 @@ loop-i-smaller c = omega arith
 
 pub loop-i-preserved : goal.loop-i-preserved
 loop-i-preserved c =
-    let at-loop = c in
-    let s = at-loop.before.before.args.bytes.now in
-    let known : Bytes s = record { below = λ k l. omega (arith, at-loop.before.shared-slice-known.given k) } in
+    let s = c.args.bytes.now in
+    let known : Bytes s = record { below = λ k l. omega (arith, c.type_inv.bytes k) } in
     let u = c.after_upper_half-ahead in
     let r = c.after_upper_two-right in
     let l = c.after_lower_two-lower in
     let f = c.field4 in
-    let low = bit_xor at-loop.loop.left at-loop.loop.right in
-    let sum = bits 64 (low + 4294967296 * at-loop.loop.high) in
+    let low = bit_xor c.loop-i.left c.loop-i.right in
+    let sum = bits 64 (low + 4294967296 * c.loop-i.high) in
     let parts : sum ≡ bit_xor (bit_xor u.result l.result) r.result =
-    bits_eight low at-loop.loop.high at-loop.loop.invariant.2
+    bits_eight low c.loop-i.high c.loop-i.invariant.2
     ∙ ap₂ bit_xor (ap₂ bit_xor (sym u.ensures) (sym l.ensures)) (sym r.ensures) in
     let below : sum < 4294967296 =
     omega (arith, parts, xor_lt 32 (bit_xor u.result l.result) r.result (xor_lt 32 u.result l.result (search rules) (search rules)) (search rules)) in
-    let added : bit_xor (bit_xor (bit_xor u.result f.result) l.result) r.result ≡ bit_xor sum (field s at-loop.loop.i 4) =
+    let added : bit_xor (bit_xor (bit_xor u.result f.result) l.result) r.result ≡ bit_xor sum (field s c.loop-i.i 4) =
     xor-ahead u.result f.result l.result r.result ∙ ap₂ bit_xor (sym parts) f.ensures in (
       omega arith,
       omega arith,
-      omega (arith, added, xor_lt 32 sum (field s at-loop.loop.i 4) below (field_below s at-loop.loop.i 4 known)),
-      ap₂ (λ (x y : ℕ). checksum_from (bits 64 (x + 4294967296 * y)) (drop (at-loop.loop.i + 8) s)) added c.field4-high.ensures
-          ∙ sym (checksum_eight sum s at-loop.loop.i below known (omega arith))
-          ∙ at-loop.loop.invariant.3,
+      omega (arith, added, xor_lt 32 sum (field s c.loop-i.i 4) below (field_below s c.loop-i.i 4 known)),
+      ap₂ (λ (x y : ℕ). checksum_from (bits 64 (x + 4294967296 * y)) (drop (c.loop-i.i + 8) s)) added c.field4-high.ensures
+          ∙ sym (checksum_eight sum s c.loop-i.i below known (omega arith))
+          ∙ c.loop-i.invariant.3,
     )
 
 pub returns : goal.returns
 returns c =
-    let at-loop = c in
-    let s = at-loop.before.before.args.bytes.now in
-    let low = bit_xor at-loop.loop.left at-loop.loop.right in
-    let sum = bits 64 (low + 4294967296 * at-loop.loop.high) in
+    let s = c.args.bytes.now in
+    let low = bit_xor c.loop-i.left c.loop-i.right in
+    let sum = bits 64 (low + 4294967296 * c.loop-i.high) in
     ap₂ bit_xor (ap₂ bit_xor c.after_upper_half-ahead.ensures c.after_lower_two-lower.ensures) c.after_upper_two-right.ensures
-    ∙ sym (bits_eight low at-loop.loop.high at-loop.loop.invariant.2)
-    ∙ sym (checksum_done sum s at-loop.loop.i (omega arith))
-    ∙ at-loop.loop.invariant.3
+    ∙ sym (bits_eight low c.loop-i.high c.loop-i.invariant.2)
+    ∙ sym (checksum_done sum s c.loop-i.i (omega arith))
+    ∙ c.loop-i.invariant.3

@@ -11,7 +11,7 @@ invariant-loop-i l =
     (l.i ≤ length l.bytes)
     × (l.i % 8 ≡ 0)
     × (bit_xor l.left l.right < 4294967296)
-    × (checksum_from (bits 64 (bit_xor l.left l.right + 4294967296 * l.high)) (drop l.i l.bytes) ≡ checksum_from (bits 64 (l.first-low + 4294967296 * l.first-high)) l.bytes)
+    × (checksum_from (bits 64 (bit_xor l.left l.right + 4294967296 * l.high)) (drop l.i l.bytes) ≡ checksum_from (bits 64 (l.first_low + 4294967296 * l.first_high)) l.bytes)
 
 abbrev pub decreases-loop-i : goal.decreases-loop-i
 decreases-loop-i l = length l.bytes - l.i

@@ -26,10 +26,10 @@ overflow_cast-result c =
 pub returns : goal.returns
 unfolding checksum_from
 returns c =
-    let a = c.before.args in
+    let a = c.args in
     let s = a.bytes.now in
     let n = length s in
-    let known : Bytes s = record { below = λ k l. omega (arith, c.shared-slice-known.given k) } in
+    let known : Bytes s = record { below = λ k l. omega (arith, c.type_inv.bytes k) } in
     let moved : ℕ → ℕ = λ f. bit_xor a.sum f * 2 ^ (64 - 8 * n) % 2 ^ 64 in
     let read = c.field_of in
     ap (bit_xor (a.sum / 2 ^ (8 * n))) (c.eights_on.ensures ∙ ap (bits 64) (halves (moved read.result) ∙ ap moved read.ensures.0))

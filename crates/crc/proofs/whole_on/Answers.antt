@@ -18,7 +18,7 @@ pub returns : goal.returns
 returns c =
     let a = c.args in
     let s = a.bytes.now in
-    let known : Bytes s = record { below = λ k l. omega (arith, c.shared_slice_known-1.given k) } in
+    let known : Bytes s = record { below = λ k l. omega (arith, c.type_inv.bytes k) } in
     c.eights_on.ensures
     ∙ ap₂ (λ (x y : ℕ). checksum_from (bits 64 (bit_xor a.start x + 4294967296 * y)) (take (length s - 8) (drop 8 s)))
     c.field4.ensures

@@ -13,25 +13,21 @@ use Rattle.header.proofs.check_last.Goals as goal
 
 pub overflow_add-places : goal.overflow_add-places
 overflow_add-places c =
-    let start = c in
-    omega (arith, (fair_places start.before.before.args.image.now).sentinel, ap (λ (p : HeaderPlaces). p.sentinel) start.places_of.ensures)
+    omega (arith, (fair_places c.args.image.now).sentinel, ap (λ (p : HeaderPlaces). p.sentinel) c.places_of-places.ensures)
 
 pub returns-then-not-known : goal.returns-then-not-known
 unfolding last_rules
 returns-then-not-known c =
-    let d1 = c in let tests = d1.before in
-    c.refused_at.ensures ∙ ap (λ (p : HeaderPlaces). Refused (Encoding at (p.sentinel + 1))) tests.before.before.before.places_of.ensures
-    ∙ sym ((refused_exactly _ _).1 (here (fails _ _ tests.before.encoding-fits.ensures d1.if1.true)))
+    c.refused_at.ensures ∙ ap (λ (p : HeaderPlaces). Refused (Encoding at (p.sentinel + 1))) c.places_of-places.ensures
+    ∙ sym ((refused_exactly _ _).1 (here (fails _ _ c.encoding_fits-known.ensures c.if-not-known.true)))
 
 pub returns-then-not-reached : goal.returns-then-not-reached
 unfolding last_rules
 returns-then-not-reached c =
-    let d2 = c in let d1 = d2.before in let tests = d1.before in
-    c.refused_at-then-not-reached.ensures ∙ ap (λ (p : HeaderPlaces). Refused (ImageLength at p.end.place)) tests.before.before.before.places_of.ensures
-    ∙ sym ((refused_exactly _ _).1 (later (holds _ _ tests.before.encoding-fits.ensures d1.if1.false) (here (fails _ _ tests.end-fits.ensures d2.if2.true))))
+    c.refused_at-then-not-reached.ensures ∙ ap (λ (p : HeaderPlaces). Refused (ImageLength at p.end.place)) c.places_of-places.ensures
+    ∙ sym ((refused_exactly _ _).1 (later (holds _ _ c.encoding_fits-known.ensures c.if-not-known.false) (here (fails _ _ c.end_fits-reached.ensures c.if-not-reached.true))))
 
 pub returns : goal.returns
 unfolding last_rules
 returns c =
-    let d1 = c in let tests = d1.before in
-    sym ((accepted_exactly (last_rules _)).1 (both (holds _ _ tests.before.encoding-fits.ensures d1.if1.false) (both (holds _ _ tests.end-fits.ensures c.if-not-reached.false) none)))
+    sym ((accepted_exactly (last_rules _)).1 (both (holds _ _ c.encoding_fits-known.ensures c.if-not-known.false) (both (holds _ _ c.end_fits-reached.ensures c.if-not-reached.false) none)))

@@ -14,31 +14,20 @@ returns-in-Refused c = sym (ends Refused _ _ _ (sym c.check_header-verdict.ensur
 
 pub root_at-nodes-requires : goal.root_at-nodes-requires
 root_at-nodes-requires c =
-    let told = c in
-    let start = told.before.before in
-    (subst FairLayout (sym c.nodes_of.ensures) (fair_nodes _), omega (arith, header_length _ (sym start.check-header.ensures ∙ told.enum_told.given.1)))
+    (subst FairLayout (sym c.nodes_of.ensures) (fair_nodes _), omega (arith, header_length _ (sym c.check_header-verdict.ensures ∙ c.in_default.is)))
 
 pub root_at-blocks-requires : goal.root_at-blocks-requires
 root_at-blocks-requires c =
-    let told = c in
-    let start = told.before.before in
-    (subst FairLayout (sym c.blocks_of.ensures) (fair_blocks _), omega (arith, header_length _ (sym start.check-header.ensures ∙ told.enum_told.given.1)))
+    (subst FairLayout (sym c.blocks_of.ensures) (fair_blocks _), omega (arith, header_length _ (sym c.check_header-verdict.ensures ∙ c.in_default.is)))
 
 pub method_of-method-requires : goal.method_of-method-requires
 method_of-method-requires c =
-    let told = c in
-    let start = told.before.before in
-    omega (arith, header_length _ (sym start.check-header.ensures ∙ told.enum_told.given.1))
+    omega (arith, header_length _ (sym c.check_header-verdict.ensures ∙ c.in_default.is))
 
 pub returns : goal.returns
 unfolding header_of says
 returns c =
-    let method = c in
-    let blocks = method.before in
-    let nodes = blocks.before.before in
-    let told = nodes.before.before in
-    let start = told.before.before in
-    let image = start.before.before.args.image.now in
-    let left = nodes.root-at.ensures ∙ ap (root_at image) nodes.before.nodes-of.ensures in
-    let right = blocks.root-at2.ensures ∙ ap (root_at image) blocks.before.blocks-of.ensures in
-    sym (goes Refused _ _ (sym start.check-header.ensures ∙ told.enum_told.given.1) ∙ rw (left, right, method.method-of.ensures, c.stated_end-end.ensures, c.bits_of-edition.ensures))
+    let image = c.args.image.now in
+    let left = c.root_at-nodes.ensures ∙ ap (root_at image) c.nodes_of.ensures in
+    let right = c.root_at-blocks.ensures ∙ ap (root_at image) c.blocks_of.ensures in
+    sym (goes Refused _ _ (sym c.check_header-verdict.ensures ∙ c.in_default.is) ∙ rw (left, right, c.method_of-method.ensures, c.stated_end-end.ensures, c.bits_of-edition.ensures))

@@ -16,5 +16,4 @@ byte_at-requires c =
 pub returns : goal.returns
 unfolding sentinel_fits
 returns c =
-    let start = c in
-    ap (λ (b : ℕ). eqb b 0x80) (c.byte_at.ensures ∙ ap (λ (p : HeaderPlaces). byte start.args.image.now p.sentinel) start.requires.1)
+    ap (λ (b : ℕ). eqb b 0x80) (c.byte_at.ensures ∙ ap (λ (p : HeaderPlaces). byte c.args.image.now p.sentinel) c.requires.1)

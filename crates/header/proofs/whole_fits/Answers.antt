@@ -8,12 +8,10 @@ use Rattle.header.proofs.whole_fits.Goals as goal
 
 pub returns-then-not-places : goal.returns-then-not-places
 returns-then-not-places c =
-    let start = c in
-    sym (no_whole _ (sym (ap (λ (p : HeaderPlaces). p.whole) start.requires.1) ∙ not-true _ c.if-not-places.true))
+    sym (no_whole _ (sym (ap (λ (p : HeaderPlaces). p.whole) c.requires.1) ∙ not-true _ c.if-not-places.true))
 
 pub returns : goal.returns
 unfolding header_sum_fits
 returns c =
-    let start = c in
     c.sum_stands.ensures ∙ ap (eqb _) c.whole_sum.ensures
-    ∙ sym (whole_is _ (sym (ap (λ (p : HeaderPlaces). p.whole) start.requires.1) ∙ not-false _ c.if-not-places.false))
+    ∙ sym (whole_is _ (sym (ap (λ (p : HeaderPlaces). p.whole) c.requires.1) ∙ not-false _ c.if-not-places.false))

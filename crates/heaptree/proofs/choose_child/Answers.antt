@@ -30,5 +30,5 @@ pub returns : goal.returns
 returns c =
     let a = c.args in
     let part = c.part_of-records in
-    ap (λ (b : Branch). b ∷ []) c.child_at.ensures
+    λ levels. ap (λ (b : Branch). b ∷ []) c.child_at.ensures
     ∙ child_chosen a.tree a.block.now a.branch a.key a.count c.requires.3 part.result.now part.ensures _ (sym c.in-At.is ∙ c.last_at_most-seat.ensures) levels

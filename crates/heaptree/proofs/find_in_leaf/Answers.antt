@@ -17,12 +17,6 @@ use Rattle.heaptree.proofs.find_in_leaf.Goals as goal
 abbrev seat_in : HeapTree → ℕ → ℕ → List ℕ → Seat
 seat_in tree key count bytes = first_that Equal key (keys_of (leaf_shape tree) count bytes)
 
--- the seat that was found among the bytes that were read is one in the item
-sought : (c : tie.After-known-told) → At c.before.seat.given.0.0 ≡ seat_in c.before.before.before.before.before.before.before.args.tree c.before.before.before.before.before.before.before.args.key (record_count (leaf_shape c.before.before.before.before.before.before.before.args.tree) (item_part c.before.before.before.before.before.before.before.args.block.now c.before.before.before.before.before.before.before.args.item)) (item_part c.before.before.before.before.before.before.before.args.block.now c.before.before.before.before.before.before.before.args.item)
-sought c =
-    let a = c.before.before.before.before.before.before.before.args in
-    sym c.before.seat.given.1 ∙ c.before.before.before.first-that.ensures ∙ ap₂ (seat_in a.tree a.key) c.before.before.before.before.before.before.before.requires.3 c.before.before.before.before.before.part_of.ensures
-
 pub first_that-seat-requires : goal.first_that-seat-requires
 first_that-seat-requires c =
     let a = c.args in
@@ -35,13 +29,20 @@ returns-in_default c =
     (sym c.in_default.is ∙ c.first_that-seat.ensures ∙ ap₂ (seat_in a.tree a.key) c.requires.3 c.part_of-records.ensures)
 
 pub overflow_mul-result : goal.overflow_mul-result
-overflow_mul-result c = let a = c.args in omega (arith, leaf_lies a.tree a.block.now c.requires.0 a.item c.requires.1 a.key c.in-At.i (sought c))
+overflow_mul-result c =
+    let a = c.args in
+    let sought = sym c.in-At.is ∙ c.first_that-seat.ensures ∙ ap₂ (seat_in a.tree a.key) c.requires.3 c.part_of-records.ensures in
+    omega (arith, leaf_lies a.tree a.block.now c.requires.0 a.item c.requires.1 a.key c.in-At.i sought)
 
 pub overflow_add-result : goal.overflow_add-result
-overflow_add-result c = let a = c.args in omega (arith, c.item_start.ensures, leaf_lies a.tree a.block.now c.requires.0 a.item c.requires.1 a.key c.in-At.i (sought c))
+overflow_add-result c =
+    let a = c.args in
+    let sought = sym c.in-At.is ∙ c.first_that-seat.ensures ∙ ap₂ (seat_in a.tree a.key) c.requires.3 c.part_of-records.ensures in
+    omega (arith, c.item_start.ensures, leaf_lies a.tree a.block.now c.requires.0 a.item c.requires.1 a.key c.in-At.i sought)
 
 pub returns : goal.returns
 returns c =
     let a = c.args in
     let i = c.in-At.i in
-    rw c.item_start.ensures (leaf_at a.tree a.block.now c.requires.0 a.item c.requires.1 a.key i (sought c))
+    let sought = sym c.in-At.is ∙ c.first_that-seat.ensures ∙ ap₂ (seat_in a.tree a.key) c.requires.3 c.part_of-records.ensures in
+    rw c.item_start.ensures (leaf_at a.tree a.block.now c.requires.0 a.item c.requires.1 a.key i sought)

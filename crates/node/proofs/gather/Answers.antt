@@ -59,8 +59,7 @@ loop-i-init c =
 
 pub number_at-child-requires : goal.number_at-child-requires
 number_at-child-requires c =
-    let start = c in
-    (start.requires.0.0.tree, number_inside start.args.e.tree.word start.args.count c.loop-i.i start.args.root.now start.requires.0.1 c.loop-i-test.true, omega arith)
+    (c.requires.0.0.tree, number_inside c.args.e.tree.word c.args.count c.loop-i.i c.args.root.now c.requires.0.1 c.loop-i-test.true, omega arith)
 
 pub way_to-way-requires : goal.way_to-way-requires
 way_to-way-requires c = (c.requires.0.0.blocks, c.loop-i.invariant.6, c.loop-i.invariant.7)
@@ -82,11 +81,10 @@ slice_bounds-block_into-end c = omega arith
 
 pub block_into-requires : goal.block_into-requires
 block_into-requires c =
-    let d = c in
-    (checked_large _ _ _ _ (block_is d), checked_inside _ _ _ _ (block_is d), simp (length-take, length-drop) (omega (arith, space d, d.before.before.before.before.loop.invariant.2, d.before.before.before.before.before.before.before.before.before.requires.1)))
+    (checked_large _ _ _ _ (block_is d), checked_inside _ _ _ _ (block_is d), simp (length-take, length-drop) (omega (arith, space d, c.loop-i.invariant.2, c.requires.1)))
 
 pub overflow_add-n : goal.overflow_add-n
-overflow_add-n c = let start = c in omega (arith, space c, start.requires.1, start.well-formed.1.1.1.1.0)
+overflow_add-n c = omega (arith, space c, c.requires.1, c.well-formed.1.1.1.1.0)
 
 pub overflow_add-i : goal.overflow_add-i
 overflow_add-i c = omega arith
@@ -98,9 +96,8 @@ pub loop-i-preserved : goal.loop-i-preserved
 loop-i-preserved c =
     let a = c.args in
     let l = c.loop-i in
-    let d = c in
     let e = c.block_into in
-    let s = block_bytes a.image.now d.listed_at.result in
+    let s = block_bytes a.image.now c.listed_at-b.result in
     let whole = joined (bytes_at a.e a.image.now) (numbers_from a.e.tree a.root.now 0 a.count) in
     let more = joined (bytes_at a.e a.image.now) (rest a.e.tree a.root.now a.count (l.i + 1)) in (
       omega arith,
@@ -112,7 +109,7 @@ loop-i-preserved c =
           ∙ stands_on whole s more l.n l.invariant.1 (next-left d) a.out.now l.out l.invariant.5
           ∙ ap (λ (k : ℕ). fronted (take (l.n + k) whole) a.out.now) (size_is d),
       l.invariant.6,
-      d.before.way-to.ensures.1,
+      c.way_to-way.ensures.1,
     )
 
 pub shape_of-out : goal.shape_of-out

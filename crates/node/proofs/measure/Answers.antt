@@ -21,8 +21,7 @@ loop-i-init c =
 
 pub number_at-number-requires : goal.number_at-number-requires
 number_at-number-requires c =
-    let start = c in
-    (start.requires.0.tree, number_inside start.args.e.tree.word start.args.count c.loop-i.i start.args.root.now start.requires.1 (omega arith), omega arith)
+    (c.requires.0.tree, number_inside c.args.e.tree.word c.args.count c.loop-i.i c.args.root.now c.requires.1 (omega arith), omega arith)
 
 pub way_to-way-requires : goal.way_to-way-requires
 way_to-way-requires c = (c.requires.0.blocks, c.loop-i.invariant.3, c.loop-i.invariant.4)
@@ -42,10 +41,9 @@ returns-in_default c =
 
 pub overflow_add-sum : goal.overflow_add-sum
 overflow_add-sum c =
-    let start = c in
-    let a = start.args in
+    let a = c.args in
     let l = c.loop-i in
-    omega (arith, start.requires.0.trailer.most, checked_size a.e a.image.now _ _ (sym (ap (checked_block a.e a.image.now) c.number_at-number.ensures) ∙ sym c.check_block_at-checked.ensures ∙ c.in-Block.is))
+    omega (arith, c.requires.0.trailer.most, checked_size a.e a.image.now _ _ (sym (ap (checked_block a.e a.image.now) c.number_at-number.ensures) ∙ sym c.check_block_at-checked.ensures ∙ c.in-Block.is))
 
 pub overflow_add-i : goal.overflow_add-i
 overflow_add-i c = omega arith
@@ -55,12 +53,11 @@ loop-i-smaller c = omega arith
 
 pub loop-i-preserved : goal.loop-i-preserved
 loop-i-preserved c =
-    let start = c in
-    let a = start.args in
+    let a = c.args in
     let l = c.loop-i in
     let more = c.loop-i-test.true in (
       omega (arith, more),
-      omega (arith, start.requires.0.trailer.most, checked_size a.e a.image.now _ _ (sym (ap (checked_block a.e a.image.now) c.number_at-number.ensures) ∙ sym c.check_block_at-checked.ensures ∙ c.in-Block.is)),
+      omega (arith, c.requires.0.trailer.most, checked_size a.e a.image.now _ _ (sym (ap (checked_block a.e a.image.now) c.number_at-number.ensures) ∙ sym c.check_block_at-checked.ensures ∙ c.in-Block.is)),
       l.invariant.2
           ∙ ap (λ (ns : List ℕ). add_to l.sum (measured_in (kids_of a.e a.image.now ns))) (rest_at a.e.tree a.root.now a.count l.i more)
           ∙ measure_on a.e a.image.now (number_at a.e.tree a.root.now l.i) (rest a.e.tree a.root.now a.count (l.i + 1)) l.sum _ (sym (ap (checked_block a.e a.image.now) c.number_at-number.ensures) ∙ sym c.check_block_at-checked.ensures ∙ c.in-Block.is),

@@ -12,7 +12,7 @@ loop-i-init c =
     (omega arith, ap none_internal (sym (rest_all a.d a.root.now a.count)))
 
 pub number_at-requires : goal.number_at-requires
-number_at-requires c = let start = c in (start.requires.0, number_inside start.args.d.word start.args.count c.loop-i.i start.args.root.now start.requires.1 (omega arith), omega arith)
+number_at-requires c = (c.requires.0, number_inside c.args.d.word c.args.count c.loop-i.i c.args.root.now c.requires.1 (omega arith), omega arith)
 
 pub returns-then-is_internal : goal.returns-then-is_internal
 returns-then-is_internal c =

@@ -4,10 +4,10 @@ use Rattle.node.proofs.Numbers.{place_small}
 use Rattle.node.proofs.number_at.Goals as goal
 
 pub overflow_mul-i : goal.overflow_mul-i
-overflow_mul-i c = let start = c in omega (arith, place_small start.args.d.word start.args.i start.requires.0.word start.requires.2)
+overflow_mul-i c = omega (arith, place_small c.args.d.word c.args.i c.requires.0.word c.requires.2)
 
 pub overflow_add-i : goal.overflow_add-i
-overflow_add-i c = let start = c in omega (arith, place_small start.args.d.word start.args.i start.requires.0.word start.requires.2)
+overflow_add-i c = omega (arith, place_small c.args.d.word c.args.i c.requires.0.word c.requires.2)
 
 pub returns : goal.returns
 unfolding number_at

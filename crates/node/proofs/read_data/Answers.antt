@@ -16,7 +16,7 @@ returns-in_default c =
     (c.refused_data.ensures ∙ refused_read_is _ _ told ∙ o.0, o.1)
 
 pub read_listed-requires : goal.read_listed-requires
-read_listed-requires c = let start = c in (start.requires.0, checked_large _ _ _ _ (sym c.check_block_in-checked.ensures ∙ c.in-Block.is), checked_inside _ _ _ _ (sym c.check_block_in-checked.ensures ∙ c.in-Block.is), start.requires.1)
+read_listed-requires c = (c.requires.0, checked_large _ _ _ _ (sym c.check_block_in-checked.ensures ∙ c.in-Block.is), checked_inside _ _ _ _ (sym c.check_block_in-checked.ensures ∙ c.in-Block.is), c.requires.1)
 
 pub returns : goal.returns
 returns c =

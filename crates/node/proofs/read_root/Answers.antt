@@ -26,8 +26,7 @@ unfolding count_in
 measure-measured-requires c =
     let a = c.args in
     let s = shape_of a.e.tree a.root.now (holds _ _ c.shape_fits.ensures c.if-not-shape_fits.false) in
-    let start = c in
-    (start.requires.0, omega (arith, s.size, same_whole a.e.tree.word c.field2-count.ensures), omega arith, start.requires.1)
+    (c.requires.0, omega (arith, s.size, same_whole a.e.tree.word c.field2-count.ensures), omega arith, c.requires.1)
 
 pub returns-in_default : goal.returns-in_default
 unfolding count_in
@@ -66,8 +65,7 @@ gather-requires c =
     let s = shape_of a.e.tree a.root.now (holds _ _ c.shape_fits.ensures c.if-not-shape_fits.false) in
     let p = passed a.e a.image.now a.root.now c.field2-count.result _ c.field2-count.ensures c.measure-measured.ensures _ c.in-Sum.is in
     let f = c.field2-count.ensures in
-    let start = c in
-    ((start.requires.0, omega (arith, s.size, same_whole a.e.tree.word f), omega arith, p.listed, start.requires.1), omega (arith, ap length p.joins, p.long))
+    ((c.requires.0, omega (arith, s.size, same_whole a.e.tree.word f), omega arith, p.listed, c.requires.1), omega (arith, ap length p.joins, p.long))
 
 pub returns : goal.returns
 unfolding count_in

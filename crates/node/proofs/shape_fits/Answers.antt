@@ -10,10 +10,10 @@ returns-then-size-lt8 c =
     too_short a.d a.root.now (omega arith)
 
 pub overflow_mul-whole : goal.overflow_mul-whole
-overflow_mul-whole c = let start = c in omega (arith, place_small start.args.d.word c.field2-count.result start.requires.word (omega arith))
+overflow_mul-whole c = omega (arith, place_small c.args.d.word c.field2-count.result c.requires.word (omega arith))
 
 pub overflow_add-whole : goal.overflow_add-whole
-overflow_add-whole c = let start = c in omega (arith, place_small start.args.d.word c.field2-count.result start.requires.word (omega arith))
+overflow_add-whole c = omega (arith, place_small c.args.d.word c.field2-count.result c.requires.word (omega arith))
 
 pub returns-then-size-whole : goal.returns-then-size-whole
 unfolding count_in

@@ -12,6 +12,6 @@ slice_bounds-checksum-end c = simp length-take (omega arith)
 pub returns : goal.returns
 unfolding checksum_fits
 returns c =
-    let a = c.before.args in
+    let a = c.args in
     let sum : c.checksum.result ≡ checksum (take a.l.trailer a.page.now) = c.checksum.ensures in
     ap₂ eqb c.field4.ensures sum

@@ -13,9 +13,7 @@ find_nodes-requires c = subst FairLayout (sym c.nodes_of.ensures) (fair_nodes _)
 pub returns : goal.returns
 unfolding list_outcome list_area
 returns c =
-    let called = c in
-    let chosen = called.before.before in
-    let a = chosen.before.before.before.before.args in
-    let done = called.find_nodes.ensures in
-    let choice = chosen.nodes-of.ensures in
+    let a = c.args in
+    let done = c.find_nodes.ensures in
+    let choice = c.nodes_of.ensures in
     (ap verdict_means done.0, done.1 ∙ ap (λ (l : Layout). area_of l a.image.now a.nodes.now a.places.now) choice)

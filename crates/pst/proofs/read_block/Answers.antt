@@ -14,11 +14,9 @@ read_block-requires c = subst FairEdition (sym c.edition_of.ensures) (fair_editi
 pub returns : goal.returns
 unfolding read_outcome read_buffer
 returns c =
-    let called = c in
-    let chosen = called.before.before in
-    let a = chosen.before.before.before.args in
-    let done = called.read_block.ensures in
-    let choice = chosen.edition-of.ensures in
-    let e = chosen.edition-of.result in
-    let answer : called.read_block.result ≡ read_of e a.image.now a.block (length a.out.now) = done.0 in
+    let a = c.args in
+    let done = c.read_block.ensures in
+    let choice = c.edition_of.ensures in
+    let e = c.edition_of.result in
+    let answer : c.read_block.result ≡ read_of e a.image.now a.block (length a.out.now) = done.0 in
     (ap sized_means (answer ∙ ap (λ (e : Edition). read_of e a.image.now a.block (length a.out.now)) choice), done.1 ∙ ap (λ (e : Edition). filled_of e a.image.now a.block a.out.now) choice)

@@ -14,11 +14,9 @@ read_node-requires c = subst FairEdition (sym c.edition_of.ensures) (fair_editio
 pub returns : goal.returns
 unfolding data_outcome data_buffer
 returns c =
-    let called = c in
-    let chosen = called.before.before in
-    let a = chosen.before.before.before.args in
-    let done = called.read_node.ensures in
-    let choice = chosen.edition-of.ensures in
-    let e = chosen.edition-of.result in
-    let answer : called.read_node.result ≡ answer_to (node_content e a.image.now a.node) (length a.out.now) = done.0 in
+    let a = c.args in
+    let done = c.read_node.ensures in
+    let choice = c.edition_of.ensures in
+    let e = c.edition_of.result in
+    let answer : c.read_node.result ≡ answer_to (node_content e a.image.now a.node) (length a.out.now) = done.0 in
     (ap data_means (answer ∙ ap (λ (e : Edition). answer_to (node_content e a.image.now a.node) (length a.out.now)) choice), done.1 ∙ ap (λ (e : Edition). filled_by (node_content e a.image.now a.node) a.out.now) choice)

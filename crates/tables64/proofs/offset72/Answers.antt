@@ -1026,4 +1026,4 @@ returns-in-126 c = arm 5 c.args.byte c.in-126.is refl
 
 pub returns-in_default : goal.returns-in_default
 unfolding table_entry bits bit NoneOf
-returns-in_default c = ap (table_entry 5) (sym (last_one 255 c.args.byte (search rules) c.in_default-own.rest))
+returns-in_default c = ap (table_entry 5) (sym (last_one 255 c.args.byte (search rules) c.in_default.in_default-own.rest))

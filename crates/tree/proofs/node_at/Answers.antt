@@ -7,10 +7,9 @@ use Rattle.tree.proofs.node_at.Goals as goal
 pub returns : goal.returns
 unfolding node_of
 returns c =
-    let start = c in
-    let a = start.args in
+    let a = c.args in
     c.as_node.ensures
     ∙ ap as_node
     (c.end_of.ensures
     ∙ ap (λ (k : ℕ). shown a.l (at_end a.l a.image.now a.way k)) c.compared.ensures
-    ∙ ap (shown a.l) start.requires.2)
+    ∙ ap (shown a.l) c.requires.2)
