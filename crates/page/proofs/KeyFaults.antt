@@ -59,6 +59,7 @@ module _ (L : Layout) (image : List ℕ) (p : Link) where
   numbered r (later s (later u (here t))) = omega arith
   numbered r (later s (later u (later v (here t)))) = omega arith
   numbered r (later s (later u (later v (later w (here t))))) = omega arith
+  numbered r (later s (later u (later v (later w (later _ f))))) = elim f [ ]
 
   found : Order
   found = ordered p.range (keys_in L (page image p.offset))

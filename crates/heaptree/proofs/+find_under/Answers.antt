@@ -14,7 +14,7 @@ pub find_in_leaf-requires : goal.find_in_leaf-requires
 find_in_leaf-requires t c =
     let a = c.args in
     let h = leaf_held a.tree a.block.now a.levels a.branch _ (sym c.check_branch.ensures ∙ c.in-Records.is) c.if-levels-eq0.true in
-    (c.requires.1.0, h.0, c.requires.1.1, h.1)
+    (c.requires.0, h.0, c.requires.1, h.1)
 
 pub returns-then-levels-eq0 : goal.returns-then-levels-eq0
 returns-then-levels-eq0 t c =
@@ -25,7 +25,7 @@ pub choose_child-chosen-requires : goal.choose_child-chosen-requires
 choose_child-chosen-requires t c =
     let a = c.args in
     let h = index_held a.tree a.block.now a.levels a.branch _ (sym c.check_branch.ensures ∙ c.in-Records.is) c.if-levels-eq0.false in
-    (c.requires.1.0, h.0, c.requires.1.1, h.1)
+    (c.requires.0, h.0, c.requires.1, h.1)
 
 pub returns-in_default : goal.returns-in_default
 returns-in_default t c =
@@ -34,7 +34,7 @@ returns-in_default t c =
     (sym (ap chosen_in c.in_default.is) ∙ c.choose_child-chosen.ensures (a.levels - 1))
 
 pub find_under-requires : goal.find_under-requires
-find_under-requires t c = (omega (arith, c.requires.0), c.requires.1)
+find_under-requires t c = (omega arith, c.requires)
 
 pub returns : goal.returns
 returns t c =

@@ -11,10 +11,10 @@ use Rattle.node.proofs.gather.Given as goal
 
 abbrev pub invariant-loop-i : goal.invariant-loop-i
 invariant-loop-i l =
-    let whole = joined (bytes_at l.E l.image) (numbers_from l.E.tree l.root 0 l.count) in
-    (l.i ≤ l.count) × (l.n ≤ length whole) × (length l.out ≡ length l.initial.out) × AllListed l.E l.image (rest l.E.tree l.root l.count l.i)
-    × (drop l.n whole ≡ joined (bytes_at l.E l.image) (rest l.E.tree l.root l.count l.i)) × (l.out ≡ fronted (take l.n whole) l.initial.out)
-    × (l.start ≡ start_fits l.E.blocks l.image) × FromRoot l.E.blocks l.image l.way
+    let whole = joined (bytes_at l.e l.image) (numbers_from l.e.tree l.root 0 l.count) in
+    (l.i ≤ l.count) × (l.n ≤ length whole) × (length l.out ≡ length l.initial.out) × AllListed l.e l.image (rest l.e.tree l.root l.count l.i)
+    × (drop l.n whole ≡ joined (bytes_at l.e l.image) (rest l.e.tree l.root l.count l.i)) × (l.out ≡ fronted (take l.n whole) l.initial.out)
+    × (l.start ≡ start_fits l.e.blocks l.image) × FromRoot l.e.blocks l.image l.way
 
 abbrev pub decreases-loop-i : goal.decreases-loop-i
 decreases-loop-i l = l.count - l.i

@@ -9,8 +9,8 @@ use Rattle.node.proofs.measure.Given as goal
 
 abbrev pub invariant-loop-i : goal.invariant-loop-i
 invariant-loop-i l =
-    (l.i ≤ l.count) × (l.sum ≤ 65535 * l.i) × (measured_in (kids_of l.E l.image (numbers_from l.E.tree l.root 0 l.count)) ≡ add_to l.sum (measured_in (kids_of l.E l.image (rest l.E.tree l.root l.count l.i))))
-    × (l.start ≡ start_fits l.E.blocks l.image) × FromRoot l.E.blocks l.image l.way
+    (l.i ≤ l.count) × (l.sum ≤ 65535 * l.i) × (measured_in (kids_of l.e l.image (numbers_from l.e.tree l.root 0 l.count)) ≡ add_to l.sum (measured_in (kids_of l.e l.image (rest l.e.tree l.root l.count l.i))))
+    × (l.start ≡ start_fits l.e.blocks l.image) × FromRoot l.e.blocks l.image l.way
 
 abbrev pub decreases-loop-i : goal.decreases-loop-i
 decreases-loop-i l = l.count - l.i

@@ -8,8 +8,8 @@ use Rattle.nodelist.proofs.fill.Given as goal
 
 abbrev pub invariant-loop-i : goal.invariant-loop-i
 invariant-loop-i l =
-    (l.i ≤ length l.nodes) × (length l.places ≡ length l.initial.places) × (l.start ≡ start_fits l.L l.image) × FromRoot l.L l.image l.way
-    × (l.places ≡ fronted (places_of l.L l.image (take l.i l.nodes)) l.initial.places)
+    (l.i ≤ length l.nodes) × (length l.places ≡ length l.initial.places) × (l.start ≡ start_fits l.l l.image) × FromRoot l.l l.image l.way
+    × (l.places ≡ fronted (places_of l.l l.image (take l.i l.nodes)) l.initial.places)
 
 abbrev pub decreases-loop-i : goal.decreases-loop-i
 decreases-loop-i l = length l.nodes - l.i

@@ -1,17 +1,23 @@
+use Prim.Native.Nat.{ℕ}
 use mathlib.Core.Path.{◌≡◌, sym, ap, ◌∙◌}
+use mathlib.Core.List.{List}
+use Rattle.keys.specs.declared.Order.{Order}
+use Rattle.keys.specs.declared.Range.{Range}
+use Rattle.keys.specs.declared.Shape.{Shape}
+use Rattle.keys.specs.Records.{keys_of}
+use Rattle.edition.specs.declared.Layout.{Layout}
+use Rattle.page.specs.Layout.{shape}
 use Rattle.keys.specs.Range.{ordered}
-use Rattle.page.specs.Page.{keys_in}
+use Rattle.page.specs.Page.{count_of, level_of, keys_in}
 use Rattle.page.proofs.KeyLaws.{told, keys_told}
 use Rattle.page.proofs.PageLaws.{entries_held, keys_of_entries}
 use Rattle.page.proofs.check_keys.Goals as goal
 
--- what is found of the page's keys
-found : (c : tie.After-check-keys) → c.check-keys.result ≡ ordered c.before.before.before.before.before.args.p.range (keys_in c.before.before.before.before.before.args.l c.before.before.before.before.before.args.page.now)
+-- what is found of the page's keys, by the shape and the count that were read
+found : (l : Layout) (range : Range) (g : List ℕ) (s : Shape) (count : ℕ) (r : Order) → r ≡ ordered range (keys_of s count g) → s ≡ shape l (level_of l g) → count ≡ count_of l g
+    → r ≡ ordered range (keys_in l g)
 unfolding keys_in
-found c =
-    let a = c.before.before.before.before.before.args in
-    c.check-keys.ensures
-    ∙ ap (ordered a.p.range) (rw (c.before.before.shape-in.ensures, c.before.before.before.count_of.ensures.0) (keys_of_entries a.l a.page.now))
+found l range g s count r e h k = e ∙ ap (ordered range) (rw (h, k) (keys_of_entries l g))
 
 pub check_keys-requires : goal.check_keys-requires
 check_keys-requires c =
@@ -23,18 +29,18 @@ pub returns-in-Climbing : goal.returns-in-Climbing
 unfolding told
 returns-in-Climbing c =
     let a = c.args in
-    sym (keys_told a.p _ ∙ ap (told a.p.offset) (sym (found c) ∙ c.in-Climbing.is))
+    sym (keys_told a.p _ ∙ ap (told a.p.offset) (sym (found a.l _ a.page.now _ _ _ c.check_keys.ensures c.shape_in-shape.ensures c.count_of-count.ensures.0) ∙ c.in-Climbing.is))
 
 pub returns-in-Unordered : goal.returns-in-Unordered
 unfolding told
 returns-in-Unordered c =
     let a = c.args in
     c.refused_entry.ensures
-    ∙ sym (keys_told a.p _ ∙ ap (told a.p.offset) (sym (found c) ∙ c.in-Unordered.is))
+    ∙ sym (keys_told a.p _ ∙ ap (told a.p.offset) (sym (found a.l _ a.page.now _ _ _ c.check_keys.ensures c.shape_in-shape.ensures c.count_of-count.ensures.0) ∙ c.in-Unordered.is))
 
 pub returns-in-Outside : goal.returns-in-Outside
 unfolding told
 returns-in-Outside c =
     let a = c.args in
     c.refused_entry-in-Outside.ensures
-    ∙ sym (keys_told a.p _ ∙ ap (told a.p.offset) (sym (found c) ∙ c.in-Outside.is))
+    ∙ sym (keys_told a.p _ ∙ ap (told a.p.offset) (sym (found a.l _ a.page.now _ _ _ c.check_keys.ensures c.shape_in-shape.ensures c.count_of-count.ensures.0) ∙ c.in-Outside.is))

@@ -13,25 +13,25 @@ use Rattle.property.proofs.SaidLaws.{value_at}
 use Rattle.property.proofs.find_in_context.Goals as goal
 
 -- what was asked of the tree is the property tree's
-told : {tree : HeapTree} {block : List ℕ} {root id : ℕ} {found : FoundRecord} → tree ≡ properties → root ≡ user_root block
+told : (block : List ℕ) (tree : HeapTree) (root id : ℕ) (found : FoundRecord) → tree ≡ properties → root ≡ user_root block
     → Shows tree block found (from_root tree block root id) → Shows properties block found (from_root properties block (user_root block) id)
-told same start shown = rw (same, start) at shown
+told block tree root id found same start shown = rw (same, start) at shown
 
 pub find_from-found-requires : goal.find_from-found-requires
 find_from-found-requires c =
     rw (c.properties.ensures, c.user_root.ensures) (c.requires.0, (omega arith, omega arith, omega arith), c.requires.1.root)
 
 pub overflow_add-place : goal.overflow_add-place
-overflow_add-place c = omega (arith, lies_at _ _ _ _ (told c.properties.ensures c.user_root.ensures c.find_from-found.ensures) _ c.in-At.is)
+overflow_add-place c = omega (arith, lies_at _ _ _ _ (told c.args.block.now _ _ c.args.id _ c.properties.ensures c.user_root.ensures c.find_from-found.ensures) _ c.in-At.is)
 
 pub field2-requires : goal.field2-requires
-field2-requires c = omega (arith, lies_at _ _ _ _ (told c.properties.ensures c.user_root.ensures c.find_from-found.ensures) _ c.in-At.is)
+field2-requires c = omega (arith, lies_at _ _ _ _ (told c.args.block.now _ _ c.args.id _ c.properties.ensures c.user_root.ensures c.find_from-found.ensures) _ c.in-At.is)
 
 pub overflow_add-place-in-At : goal.overflow_add-place-in-At
-overflow_add-place-in-At c = omega (arith, lies_at _ _ _ _ (told c.properties.ensures c.user_root.ensures c.find_from-found.ensures) _ c.in-At.is)
+overflow_add-place-in-At c = omega (arith, lies_at _ _ _ _ (told c.args.block.now _ _ c.args.id _ c.properties.ensures c.user_root.ensures c.find_from-found.ensures) _ c.in-At.is)
 
 pub field4-requires : goal.field4-requires
-field4-requires c = omega (arith, lies_at _ _ _ _ (told c.properties.ensures c.user_root.ensures c.find_from-found.ensures) _ c.in-At.is)
+field4-requires c = omega (arith, lies_at _ _ _ _ (told c.args.block.now _ _ c.args.id _ c.properties.ensures c.user_root.ensures c.find_from-found.ensures) _ c.in-At.is)
 
 pub returns-in-At : goal.returns-in-At
 returns-in-At c =
@@ -39,10 +39,10 @@ returns-in-At c =
     c.value_of.ensures
     ∙ ap₂ (value_of block) c.field2.ensures c.field4.ensures
     ∙ value_at block c.in-At.place
-    ∙ read_at properties block _ _ (told c.properties.ensures c.user_root.ensures c.find_from-found.ensures) _ _ _ _ c.in-At.is
+    ∙ read_at properties block _ _ (told c.args.block.now _ _ c.args.id _ c.properties.ensures c.user_root.ensures c.find_from-found.ensures) _ _ _ _ c.in-At.is
 
 pub returns-in-Absent : goal.returns-in-Absent
-returns-in-Absent c = read_none _ _ _ _ (told c.properties.ensures c.user_root.ensures c.find_from-found.ensures) _ _ _ c.in-Absent.is
+returns-in-Absent c = read_none _ _ _ _ (told c.args.block.now _ _ c.args.id _ c.properties.ensures c.user_root.ensures c.find_from-found.ensures) _ _ _ c.in-Absent.is
 
 pub returns-in-Refused : goal.returns-in-Refused
-returns-in-Refused c = read_wrong _ _ _ _ (told c.properties.ensures c.user_root.ensures c.find_from-found.ensures) _ _ _ _ c.in-Refused.is
+returns-in-Refused c = read_wrong _ _ _ _ (told c.args.block.now _ _ c.args.id _ c.properties.ensures c.user_root.ensures c.find_from-found.ensures) _ _ _ _ c.in-Refused.is

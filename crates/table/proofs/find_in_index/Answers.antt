@@ -1,8 +1,11 @@
 use mathlib.Core.Path.{◌≡◌, ap, ◌∙◌}
-use Prim.Native.Nat.{◌+◌}
+use mathlib.Core.List.{List}
+use Prim.Native.Nat.{ℕ, ◌+◌}
 use native.Mathlib.Omega.{arith}
 use Rattle.le.specs.Bytes.{field}
 use Rattle.columns.specs.Record.{row_index_item}
+use Rattle.heaptree.specs.declared.FoundRecord.{FoundRecord}
+use Rattle.heaptree.specs.declared.HeapTree.{HeapTree}
 use Rattle.heaptree.specs.Lookup.{from_root, Shows}
 use Rattle.heaptree.proofs.ShownLaws.{lies_at, read_at, read_none, read_wrong}
 use Rattle.table.specs.declared.FoundRow.TheVariants.{Row}
@@ -11,12 +14,10 @@ use Rattle.table.proofs.ContextLaws.{record_long}
 use Rattle.table.proofs.IndexLaws.{fair_tree, number_fits_lem, row_at_lem}
 use Rattle.table.proofs.find_in_index.Goals as goal
 
--- the item that was read is that of the row index
-root_told : (c : tie.After-row-index-item) → c.row-index-item.result ≡ index_root c.before.before.before.args.block.now
-root_told c = c.row-index-item.ensures ∙ ap row_index_item c.before.record_of.ensures
-
-told : (c : tie.After-find-from) → Shows c.before.before.before.before.args.tree c.before.before.before.before.args.block.now c.find-from.result (from_root c.before.before.before.before.args.tree c.before.before.before.before.args.block.now (index_root c.before.before.before.before.args.block.now) c.before.before.before.before.args.id)
-told c = rw (root_told c.before) at c.find-from.ensures
+-- what was asked of the tree is the row index
+told : (block : List ℕ) (tree : HeapTree) (root id : ℕ) (found : FoundRecord) → root ≡ index_root block
+    → Shows tree block found (from_root tree block root id) → Shows tree block found (from_root tree block (index_root block) id)
+told block tree root id found start shown = rw start at shown
 
 pub row_index_item-root-requires : goal.row_index_item-root-requires
 row_index_item-root-requires c = rw c.record_of.ensures (record_long _ c.requires.0)
@@ -24,13 +25,13 @@ row_index_item-root-requires c = rw c.record_of.ensures (record_long _ c.require
 pub find_from-found-requires : goal.find_from-found-requires
 find_from-found-requires c =
     let pre = c.requires in
-    rw (root_told c) (pre.0.heap, fair_tree c.args.tree pre.1, pre.2)
+    rw (c.row_index_item-root.ensures ∙ ap row_index_item c.record_of.ensures) (pre.0.heap, fair_tree c.args.tree pre.1, pre.2)
 
 pub overflow_add-place : goal.overflow_add-place
-overflow_add-place c = omega (arith, lies_at _ _ _ _ (told c) _ c.in-At.is)
+overflow_add-place c = omega (arith, lies_at _ _ _ _ (told c.args.block.now c.args.tree _ c.args.id _ (c.row_index_item-root.ensures ∙ ap row_index_item c.record_of.ensures) c.find_from-found.ensures) _ c.in-At.is)
 
 pub field_of-requires : goal.field_of-requires
-field_of-requires c = (omega (arith, lies_at _ _ _ _ (told c) _ c.in-At.is), omega (arith, c.requires.1.2))
+field_of-requires c = (omega (arith, lies_at _ _ _ _ (told c.args.block.now c.args.tree _ c.args.id _ (c.row_index_item-root.ensures ∙ ap row_index_item c.record_of.ensures) c.find_from-found.ensures) _ c.in-At.is), omega (arith, c.requires.1.2))
 
 pub overflow_cast-result : goal.overflow_cast-result
 overflow_cast-result c = omega (arith, c.field_of.ensures.1, number_fits_lem c.args.tree c.requires.1)
@@ -41,10 +42,10 @@ returns-in-At c =
     let place = c.in-At.place in
     let number : c.field_of.result ≡ field a.block.now (place + a.tree.key) a.tree.entry = c.field_of.ensures.0 in
     ap Row number ∙ row_at_lem a.tree a.block.now place
-    ∙ read_at a.tree a.block.now _ _ (told c) _ _ _ _ c.in-At.is
+    ∙ read_at a.tree a.block.now _ _ (told c.args.block.now c.args.tree _ c.args.id _ (c.row_index_item-root.ensures ∙ ap row_index_item c.record_of.ensures) c.find_from-found.ensures) _ _ _ _ c.in-At.is
 
 pub returns-in-Absent : goal.returns-in-Absent
-returns-in-Absent c = read_none _ _ _ _ (told c) _ _ _ c.in-Absent.is
+returns-in-Absent c = read_none _ _ _ _ (told c.args.block.now c.args.tree _ c.args.id _ (c.row_index_item-root.ensures ∙ ap row_index_item c.record_of.ensures) c.find_from-found.ensures) _ _ _ c.in-Absent.is
 
 pub returns-in-Refused : goal.returns-in-Refused
-returns-in-Refused c = read_wrong _ _ _ _ (told c) _ _ _ _ c.in-Refused.is
+returns-in-Refused c = read_wrong _ _ _ _ (told c.args.block.now c.args.tree _ c.args.id _ (c.row_index_item-root.ensures ∙ ap row_index_item c.record_of.ensures) c.find_from-found.ensures) _ _ _ _ c.in-Refused.is
