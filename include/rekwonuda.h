@@ -402,8 +402,8 @@ uint64_t rkw_room(uint32_t size);
 uint64_t rkw_room32(uint32_t size);
 
 /* Two calls that are not proved: they are a small C file, host/c/words.c, beside the proved library in
- * librkw.a and librkw.so as `make install` installs them. The archive that `rt staticlib rkw` writes is
- * without them. */
+ * librkw.a and librkw.so as `make install` installs them. The archive that `rt lib` writes is without
+ * them. */
 
 /* The version of the library, as RKW_VERSION counts it. */
 uint64_t rkw_version(void);

@@ -17,7 +17,7 @@ fn link_archive() {
     println!("cargo:rerun-if-changed={}", archive.display());
     if !archive.is_file() {
         fail(&format!(
-            "{} is missing: run ./rekwonuda, or rt staticlib rkw",
+            "{} is missing: run ./rekwonuda",
             archive.display()
         ));
     }

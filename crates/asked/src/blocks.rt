@@ -1,77 +1,79 @@
 // The block tree, listed from its first block on, and each block's bytes.
 use crate::text;
 use block::Sized;
+use std::io;
 use tree::FoundBlock;
 
-fn say_found(found: FoundBlock) {
-    said::say(b": ");
+fn say_found(rt: &impl Print, found: FoundBlock) -> io::Result<()> {
+    said::say(rt, b": ")?;
     match found {
-        FoundBlock::Found(b, pages) => shown::say_block(b, pages),
-        FoundBlock::Absent(pages) => shown::say_absent(pages),
-        FoundBlock::Refused(wrong) => said::say_refusal(wrong),
+        FoundBlock::Found(b, pages) => shown::say_block(rt, b, pages)?,
+        FoundBlock::Absent(pages) => shown::say_absent(rt, pages)?,
+        FoundBlock::Refused(wrong) => said::say_refusal(rt, wrong)?,
     }
-    said::say(b"\n");
+    said::say(rt, b"\n")
 }
 
-fn test_line(image: &[u8], block: u64) {
-    said::say_hex(b"test_block ", block);
-    said::say(b": ");
+fn test_line(rt: &impl Print, image: &[u8], block: u64) -> io::Result<()> {
+    said::say_hex(rt, b"test_block ", block)?;
+    said::say(rt, b": ")?;
     match pst::test_block(image, block) {
-        Sized::Size(size) => said::say_decimal(b"size ", size),
-        Sized::Refused(wrong) => said::say_refusal(wrong),
+        Sized::Size(size) => said::say_decimal(rt, b"size ", size)?,
+        Sized::Refused(wrong) => said::say_refusal(rt, wrong)?,
     }
-    said::say(b"\n");
+    said::say(rt, b"\n")
 }
 
-fn say_read(read: Sized, buffer: &[u8]) {
+fn say_read(rt: &impl Print, read: Sized, buffer: &[u8]) -> io::Result<()> {
     match read {
         Sized::Size(size) => {
             let n = text::front(size, buffer);
-            text::say_bytes(&buffer[..n]);
+            text::say_bytes(rt, &buffer[..n])
         }
-        Sized::Refused(wrong) => said::say_refusal(wrong),
+        Sized::Refused(wrong) => said::say_refusal(rt, wrong),
     }
 }
 
-fn read_line(image: &[u8], block: u64, out: &mut [u8]) {
-    said::say_hex(b"read_block ", block);
-    said::say(b": ");
+fn read_line(rt: &impl Print, image: &[u8], block: u64, out: &mut [u8]) -> io::Result<()> {
+    said::say_hex(rt, b"read_block ", block)?;
+    said::say(rt, b": ")?;
     let read = pst::read_block(image, block, out);
-    say_read(read, out);
-    text::say_buffer(out);
+    say_read(rt, read, out)?;
+    text::say_buffer(rt, out)
 }
 
-fn block_lines(image: &[u8], block: u64, out: &mut [u8]) {
-    said::say_hex(b"find_block ", block);
-    say_found(pst::find_block(image, block));
-    test_line(image, block);
+fn block_lines(rt: &impl Print, image: &[u8], block: u64, out: &mut [u8]) -> io::Result<()> {
+    said::say_hex(rt, b"find_block ", block)?;
+    say_found(rt, pst::find_block(image, block))?;
+    test_line(rt, image, block)?;
     let mut short = [0xA5u8; 16];
-    read_line(image, block, &mut short);
-    read_line(image, block, out);
+    read_line(rt, image, block, &mut short)?;
+    read_line(rt, image, block, out)
 }
 
 // Where the listing ends, the number that it ended at is asked for.
-fn next_lines(image: &[u8], from: u64, out: &mut [u8]) -> u64 {
-    said::say_hex(b"next_block ", from);
+fn next_lines(rt: &impl Print, image: &[u8], from: u64, out: &mut [u8]) -> io::Result<u64> {
+    said::say_hex(rt, b"next_block ", from)?;
     let found = pst::next_block(image, from);
-    say_found(found);
+    say_found(rt, found)?;
     let FoundBlock::Found(b, pages) = found else {
-        block_lines(image, from, out);
-        return 0;
+        block_lines(rt, image, from, out)?;
+        return Ok(0);
     };
-    block_lines(image, b.block, out);
-    said::above(b.block, 0xFFFF_FFFF_FFFF_FFFF)
+    block_lines(rt, image, b.block, out)?;
+    Ok(said::above(b.block, 0xFFFF_FFFF_FFFF_FFFF))
 }
 
 // At most so many blocks.
-pub fn list_blocks(image: &[u8], out: &mut [u8]) {
+pub fn list_blocks(rt: &impl Print, image: &[u8], out: &mut [u8]) -> io::Result<()> {
     let mut from: u64 = 0;
     let mut left: usize = 60;
     while left > 0 {
-        from = next_lines(image, from, out);
+        from = next_lines(rt, image, from, out)?;
         if from == 0 {
-            return;
+            return Ok(());
         }
         left -= 1;
     }
+    Ok(())
 }

@@ -1,57 +1,57 @@
 // A node's data taken as a heap, and the properties on it.
 use crate::{answers, text};
-use libc::STDOUT_FILENO;
 use property::Property;
 use refusal::Verdict;
+use std::io;
 
-fn say_code(code: u16, kind: &[u8]) {
-    said::say(b"type ");
-    io::print_hex(STDOUT_FILENO, code as u64, 4);
-    said::say(kind);
+fn say_code(rt: &impl Print, code: u16, kind: &[u8]) -> io::Result<()> {
+    said::say(rt, b"type ")?;
+    print!(rt; "{code:04x}")?;
+    said::say(rt, kind)
 }
 
-fn say_value(code: u16, kind: &[u8], value: u32) {
-    say_code(code, kind);
-    io::print_hex(STDOUT_FILENO, value as u64, 8);
+fn say_value(rt: &impl Print, code: u16, kind: &[u8], value: u32) -> io::Result<()> {
+    say_code(rt, code, kind)?;
+    print!(rt; "{value:08x}")
 }
 
-fn say_item(block: &[u8], code: u16, item: u32) {
-    say_value(code, b", item ", item);
-    said::say(b" of ");
-    text::say_bytes(pst::item(block, item));
+fn say_item(rt: &impl Print, block: &[u8], code: u16, item: u32) -> io::Result<()> {
+    say_value(rt, code, b", item ", item)?;
+    said::say(rt, b" of ")?;
+    text::say_bytes(rt, pst::item(block, item))
 }
 
-fn say_property(block: &[u8], answer: Property) {
+fn say_property(rt: &impl Print, block: &[u8], answer: Property) -> io::Result<()> {
     match answer {
-        Property::Number(code, value) => say_value(code, b", number ", value),
-        Property::Empty(code) => say_code(code, b", empty"),
-        Property::Item(code, value) => say_item(block, code, value),
-        Property::Subnode(code, value) => say_value(code, b", subnode ", value),
-        Property::Absent => said::say(b"absent"),
-        Property::Refused(wrong) => said::say_refusal(wrong),
+        Property::Number(code, value) => say_value(rt, code, b", number ", value),
+        Property::Empty(code) => say_code(rt, code, b", empty"),
+        Property::Item(code, value) => say_item(rt, block, code, value),
+        Property::Subnode(code, value) => say_value(rt, code, b", subnode ", value),
+        Property::Absent => said::say(rt, b"absent"),
+        Property::Refused(wrong) => said::say_refusal(rt, wrong),
     }
 }
 
 // Whether the property is there or refused, and so has a line.
-fn property_line(block: &[u8], id: u16) -> bool {
+fn property_line(rt: &impl Print, block: &[u8], id: u16) -> io::Result<bool> {
     let answer = pst::find_property(block, id);
     if let Property::Absent = answer {
-        return false;
+        return Ok(false);
     }
-    said::say(b"find_property ");
-    io::print_hex(STDOUT_FILENO, id as u64, 4);
-    said::say(b": ");
-    say_property(block, answer);
-    said::say(b"\n");
-    true
+    said::say(rt, b"find_property ")?;
+    print!(rt; "{id:04x}")?;
+    said::say(rt, b": ")?;
+    say_property(rt, block, answer)?;
+    said::say(rt, b"\n")?;
+    Ok(true)
 }
 
 // Every id, until so many have had a line.
-fn property_lines(block: &[u8]) {
+fn property_lines(rt: &impl Print, block: &[u8]) -> io::Result<()> {
     let mut shown: u64 = 0;
     let mut id: u64 = 0;
     while id < 65536 {
-        if property_line(block, id as u16) {
+        if property_line(rt, block, id as u16)? {
             shown += 1;
         }
         id += 1;
@@ -59,24 +59,25 @@ fn property_lines(block: &[u8]) {
             break;
         }
     }
-    said::say_hex(b"find_property below ", id);
-    said::say_decimal(b": not absent ", shown);
-    said::say(b"\n");
+    said::say_hex(rt, b"find_property below ", id)?;
+    said::say_decimal(rt, b": not absent ", shown)?;
+    said::say(rt, b"\n")
 }
 
 // Nothing of data that no block can hold.
-pub fn heap_lines(block: &[u8]) {
+pub fn heap_lines(rt: &impl Print, block: &[u8]) -> io::Result<()> {
     if (block.len() == 0) | (8180 < block.len()) {
-        return;
+        return Ok(());
     }
     let verdict = pst::test_heap(block);
-    said::say(b"test_heap: ");
-    answers::say_verdict(verdict);
-    said::say(b"\n");
+    said::say(rt, b"test_heap: ")?;
+    answers::say_verdict(rt, verdict)?;
+    said::say(rt, b"\n")?;
     match verdict {
-        Verdict::Accepted => property_lines(block),
+        Verdict::Accepted => property_lines(rt, block),
         Verdict::Refused(_) => {
-            property_line(block, 0x3001);
+            property_line(rt, block, 0x3001)?;
+            Ok(())
         }
     }
 }

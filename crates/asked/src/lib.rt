@@ -8,21 +8,24 @@ mod lists;
 mod nodes;
 mod text;
 
+use std::io;
+use std::rt::Files;
+
 // An image in a file.
-pub fn image_lines(name: &[u8]) {
-    let mut buffer = io::large_buffer();
-    let file = said::load(name, &mut buffer);
+pub fn image_lines(rt: &(impl Files + Print + Eprint), name: &[u8]) -> io::Result<()> {
+    let mut buffer = [0u8; 65536];
+    let file = said::load(rt, name, &mut buffer)?;
     if !file.whole {
-        return;
+        return Ok(());
     }
     let n = file.size;
-    let mut out = io::large_buffer();
-    said::say(name);
-    said::say(b": ");
-    text::say_bytes(&buffer[..n]);
-    said::say(b"\n");
-    answers::whole_lines(&buffer[..n]);
-    nodes::list_nodes(&buffer[..n], &mut out);
-    lists::list_lines(&buffer[..n]);
-    blocks::list_blocks(&buffer[..n], &mut out);
+    let mut out = [0u8; 65536];
+    said::say(rt, name)?;
+    said::say(rt, b": ")?;
+    text::say_bytes(rt, &buffer[..n])?;
+    said::say(rt, b"\n")?;
+    answers::whole_lines(rt, &buffer[..n])?;
+    nodes::list_nodes(rt, &buffer[..n], &mut out)?;
+    lists::list_lines(rt, &buffer[..n])?;
+    blocks::list_blocks(rt, &buffer[..n], &mut out)
 }

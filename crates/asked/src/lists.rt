@@ -1,30 +1,30 @@
 // The first nodes as a list, looked up in one call.
 ghost use Rattle.std.specs.Prelude.{◌≤◌, length};
-ghost use Rattle.io.specs.Counts.{IsPrefixLen};
+ghost use Rattle.std.specs.Counts.{IsPrefixLen};
 
 use crate::answers;
-use libc::STDOUT_FILENO;
+use std::io;
 use tree::FoundNode;
 
 // One call, and the whole area after it.
-fn list_line(image: &[u8], nodes: &[u64], area: &mut [u64]) {
+fn list_line(rt: &impl Print, image: &[u8], nodes: &[u64], area: &mut [u64]) -> io::Result<()> {
     let words = area.len() as u64;
-    said::say_decimal(b"find_nodes of ", nodes.len() as u64);
-    said::say_decimal(b" in ", words);
-    said::say(b" words: ");
-    answers::say_verdict(pst::find_nodes(image, nodes, area));
-    said::say_decimal(b"; area of ", words);
-    said::say(b" words, checksum ");
-    io::print_hex(STDOUT_FILENO, said::sum_of(area) as u64, 8);
-    said::say(b"\n");
+    said::say_decimal(rt, b"find_nodes of ", nodes.len() as u64)?;
+    said::say_decimal(rt, b" in ", words)?;
+    said::say(rt, b" words: ")?;
+    answers::say_verdict(rt, pst::find_nodes(image, nodes, area))?;
+    said::say_decimal(rt, b"; area of ", words)?;
+    said::say(rt, b" words, checksum ")?;
+    print!(rt; "{:08x}", said::sum_of(area))?;
+    said::say(rt, b"\n")
 }
 
 // The same with a fresh area of so many words.
-fn fresh_line(image: &[u8], nodes: &[u64], words: usize)
+fn fresh_line(rt: &impl Print, image: &[u8], nodes: &[u64], words: usize) -> io::Result<()>
     requires { words ≤ 140 }
 {
     let mut area = [0xA5A5_A5A5_A5A5_A5A5u64; 140];
-    list_line(image, nodes, &mut area[..words]);
+    list_line(rt, image, nodes, &mut area[..words])
 }
 
 // The first nodes, twelve at most: how many there are.
@@ -74,20 +74,20 @@ fn full_list(image: &[u8], list: &mut [u64]) -> usize
 }
 
 // An area of just these places, one word short, and with words to spare; then no list.
-fn area_lines(image: &[u8], nodes: &[u64])
+fn area_lines(rt: &impl Print, image: &[u8], nodes: &[u64]) -> io::Result<()>
     requires { length nodes.now ≤ 15 }
 {
     let words = 9 * nodes.len();
-    fresh_line(image, nodes, words);
+    fresh_line(rt, image, nodes, words)?;
     if words > 0 {
-        fresh_line(image, nodes, words - 1);
+        fresh_line(rt, image, nodes, words - 1)?;
     }
-    fresh_line(image, nodes, words + 5);
-    fresh_line(image, &nodes[..0], 5);
+    fresh_line(rt, image, nodes, words + 5)?;
+    fresh_line(rt, image, &nodes[..0], 5)
 }
 
-pub fn list_lines(image: &[u8]) {
+pub fn list_lines(rt: &impl Print, image: &[u8]) -> io::Result<()> {
     let mut list = [0u64; 15];
     let count = full_list(image, &mut list);
-    area_lines(image, &list[..count]);
+    area_lines(rt, image, &list[..count])
 }

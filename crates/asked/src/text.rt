@@ -1,20 +1,20 @@
 // Bytes in lines of output, and the front of a buffer.
-ghost use Rattle.io.specs.Counts.{IsPrefixLen};
+ghost use Rattle.std.specs.Counts.{IsPrefixLen};
 
-use libc::STDOUT_FILENO;
+use std::io;
 
 // How many bytes there are, and their checksum.
-pub fn say_bytes(bytes: &[u8]) {
-    io::print_decimal(STDOUT_FILENO, bytes.len() as u64);
-    said::say(b" bytes, checksum ");
-    io::print_hex(STDOUT_FILENO, pst::checksum(bytes) as u64, 8);
+pub fn say_bytes(rt: &impl Print, bytes: &[u8]) -> io::Result<()> {
+    print!(rt; "{}", bytes.len())?;
+    said::say(rt, b" bytes, checksum ")?;
+    print!(rt; "{:08x}", pst::checksum(bytes))
 }
 
 // The whole buffer after a call, and the line's end.
-pub fn say_buffer(buffer: &[u8]) {
-    said::say(b"; buffer of ");
-    say_bytes(buffer);
-    said::say(b"\n");
+pub fn say_buffer(rt: &impl Print, buffer: &[u8]) -> io::Result<()> {
+    said::say(rt, b"; buffer of ")?;
+    say_bytes(rt, buffer)?;
+    said::say(rt, b"\n")
 }
 
 // A size that a call answers, as a number of the buffer's bytes.

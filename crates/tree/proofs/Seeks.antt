@@ -5,8 +5,6 @@ use mathlib.Core.List.{List, [], ◌∷◌, map}
 use mathlib.Core.Logic.{inl, inr}
 use native.Mathlib.Nat.{add-zero}
 use native.Mathlib.Omega.{arith}
-use types.Run.{OneOf}
-use denote.Enum.Declared.{tag_of}
 use Rattle.refusal.specs.declared.Verdict.{Verdict}
 use Rattle.refusal.specs.declared.Verdict.TheVariants.{Accepted}
 use Rattle.keys.specs.declared.Sought.TheVariants.{AtLeast}
@@ -23,7 +21,6 @@ use Rattle.tree.specs.declared.Found.TheVariants.{Entry, Absent, Refused as Turn
 use Rattle.tree.specs.declared.Next.TheVariants.{NoMore}
 use Rattle.tree.specs.Tree.{page_tree}
 use Rattle.tree.specs.Answers.{shown, kids_from, next_of}
-use Rattle.tree.specs.contracts.Found.{the_type}
 use Rattle.tree.proofs.Children.{starting_from}
 use Rattle.tree.proofs.Walk.{test_is}
 use Rattle.tree.proofs.Searched.{sorted, filled}
@@ -36,17 +33,6 @@ counted_sum n m (found e j) = let q : n + 1 + m + j ≡ n + (1 + (m + j)) = omeg
 counted_sum n m (absent j) = let q : n + 1 + m + j ≡ n + (1 + (m + j)) = omega arith in ap absent q
 counted_sum n m (refused r) = refl
 
--- what is no absence, by its tag: an entry's is 0, a refusal's 2
-not_one : OneOf (0 ∷ 2 ∷ []) 1 → ⊥
-not_one (inl e) = omega arith
-not_one (inr e) = omega arith
-
-pub present : (f : Found) → OneOf (0 ∷ 2 ∷ []) (tag_of the_type f) → (m : ℕ) → f ≡ Absent m → ⊥
-present (Entry x y) t m e = let clash : ◌≡◌ {A = ℕ} 0 1 = cc in omega arith
-present (Absent j) t m e = not_one t
-present (Turned r) t m e = let clash : ◌≡◌ {A = ℕ} 0 1 = cc in omega arith
-
--- f is what was handed on of the first child's answer a, when n pages and this one had been read
 module _ (L : Layout) (n : ℕ) (a : Answer (List ℕ)) (f : Found) (first-is : f ≡ shown L (counted (n + 1) a)) where
   pub absent_pages : (m : ℕ) → f ≡ Absent m → (l : ℕ) → ((j : ℕ) → a ≡ absent j → j ≤ l + 1) → m ≤ n + 1 + (l + 1)
   unfolding shown counted

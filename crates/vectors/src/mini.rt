@@ -1,5 +1,8 @@
 // Real pages of one file, put together at their true offsets: a header, the two roots, and one leaf of each tree.
 
+use std::io;
+use std::rt::Files;
+
 // Listed nodes, then one below all, one between two, and two under leaves that are not in the image.
 const NODES: [u64; 18] = [
     0x21, 0x61, 0x122, 0x12D, 0x12E, 0x12F, 0x1E1, 0x201, 0x261, 0x60D, 0x60E, 0x60F, 0x610, 0x62B,
@@ -11,26 +14,26 @@ const BLOCKS: [u64; 19] = [
     0x3, 0x20, 0x74,
 ];
 
-fn image_lines(name: &[u8]) {
+fn image_lines(rt: &(impl Files + Print + Eprint), name: &[u8]) -> io::Result<()> {
     let nodes = NODES;
     let blocks = BLOCKS;
-    shown::trees::image_lines(b"mini", name, &nodes, &blocks);
+    shown::trees::image_lines(rt, b"mini", name, &nodes, &blocks)
 }
 
-fn whole_file_line(name: &[u8]) {
-    let mut buffer = io::large_buffer();
-    let file = said::load(name, &mut buffer);
+fn whole_file_line(rt: &(impl Files + Print + Eprint), name: &[u8]) -> io::Result<()> {
+    let mut buffer = [0u8; 65536];
+    let file = said::load(rt, name, &mut buffer)?;
     if !file.whole {
-        return;
+        return Ok(());
     }
     let n = file.size;
-    shown::pages::header_line(b"mini as cut", &buffer[..n]);
+    shown::pages::header_line(rt, b"mini as cut", &buffer[..n])
 }
 
 // The first says where the whole file ended; the second, with its header sealed anew, that it ends where
 // it was cut. The third has zeros behind the first, to one byte more than the programs work on.
-pub fn real_pages() {
-    whole_file_line(b"real_mini_64bit.img");
-    image_lines(b"real_mini_ended.img");
-    image_lines(b"real_mini_65537.img");
+pub fn real_pages(rt: &(impl Files + Print + Eprint)) -> io::Result<()> {
+    whole_file_line(rt, b"real_mini_64bit.img")?;
+    image_lines(rt, b"real_mini_ended.img")?;
+    image_lines(rt, b"real_mini_65537.img")
 }

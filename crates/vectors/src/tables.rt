@@ -1,5 +1,8 @@
 // 003, 5.3: the numbers of its eight tables that can be read there, beside the library's.
-ghost use Rattle.std.specs.Prelude.{◌≤◌, ◌<◌, length};
+ghost use Rattle.std.specs.Prelude.{◌≤◌, ◌<◌, length, IfOk};
+
+use std::io;
+use std::rt::Files;
 
 // The entry of a byte in a table, the tables counted from 0.
 fn entry(table: u64, byte: u8) -> u32 {
@@ -23,9 +26,9 @@ fn once(given: bool) -> u64
 
 // The words of a table, one for each byte, from there on in the text: a number, or a dash where it
 // cannot be read. Where they end.
-fn table_line(letters: &[u8], from: usize, table: u64) -> usize
+fn table_line(rt: &impl Print, letters: &[u8], from: usize, table: u64) -> io::Result<usize>
     requires { (from ≤ length letters.now) × (table < 8) }
-    ensures { result ≤ length letters.now }
+    ensures { IfOk result (λ end. end ≤ length letters.now) }
 {
     let mut at = from;
     let mut byte: u64 = 0;
@@ -40,27 +43,28 @@ fn table_line(letters: &[u8], from: usize, table: u64) -> usize
         at = word.end;
         byte += 1;
     }
-    said::say_decimal(b"5.3 CrcTableOffset", 32 + 8 * table);
-    said::say_decimal(b": numbers that can be read: ", numbers);
-    listed::say_whether(right);
-    at
+    said::say_decimal(rt, b"5.3 CrcTableOffset", 32 + 8 * table)?;
+    said::say_decimal(rt, b": numbers that can be read: ", numbers)?;
+    listed::say_whether(rt, right)?;
+    Ok(at)
 }
 
-fn all_lines(letters: &[u8]) {
+fn all_lines(rt: &impl Print, letters: &[u8]) -> io::Result<()> {
     let mut at: usize = 0;
     let mut table: u64 = 0;
     while table < 8 {
-        at = table_line(letters, at, table);
+        at = table_line(rt, letters, at, table)?;
         table += 1;
     }
+    Ok(())
 }
 
-pub fn table_lines() {
-    let mut letters = io::large_buffer();
-    let file = said::load(b"5.3_tables.txt", &mut letters);
+pub fn table_lines(rt: &(impl Files + Print + Eprint)) -> io::Result<()> {
+    let mut letters = [0u8; 65536];
+    let file = said::load(rt, b"5.3_tables.txt", &mut letters)?;
     if !file.whole {
-        return;
+        return Ok(());
     }
     let n = file.size;
-    all_lines(&letters[..n]);
+    all_lines(rt, &letters[..n])
 }

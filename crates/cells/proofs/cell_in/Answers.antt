@@ -4,6 +4,7 @@ use Prim.Native.Nat.{ℕ, ◌<◌}
 use mathlib.Core.List.{List}
 use native.Mathlib.Omega.{arith}
 use lib.ListN.{length}
+use Rattle.keys.specs.declared.Seat.{Seat}
 use Rattle.keys.specs.declared.Seat.TheVariants.{At}
 use Rattle.columns.specs.declared.Column.{Column}
 use Rattle.columns.specs.Record.{column_count}
@@ -16,15 +17,8 @@ use Rattle.cells.proofs.CellLaws.{past_the_end, unknown_tag, known_tag}
 use Rattle.cells.proofs.cell_in.Goals as goal
 
 -- the seat that was found is that of the column with the tag
-sought : (c : tie.After-known-told) → At c.before.seat.given.0.0 ≡ seat_of (table_record c.before.before.before.before.before.before.before.before.before.args.block.now) c.before.before.before.before.before.before.before.before.before.args.tag
-sought c =
-    let a = c.before.before.before.before.before.before.before.before.before.args in
-    sym c.before.seat.given.1 ∙ c.before.before.before.seat-of.ensures ∙ ap (λ (t : List ℕ). seat_of t a.tag) c.before.before.before.before.record_of.ensures
-
-there : (c : tie.After-known-told) → c.before.seat.given.0.0 < column_count (table_record c.before.before.before.before.before.before.before.before.before.args.block.now)
-there c =
-    let pre = c.before.before.before.before.before.before.before.before.before.requires in
-    seat_inside _ pre.shape _ _ (sought c)
+sought : (block table : List ℕ) (tag : ℕ) (seat : Seat) (i : ℕ) → table ≡ table_record block → seat ≡ seat_of table tag → seat ≡ At i → At i ≡ seat_of (table_record block) tag
+sought block table tag seat i told found is = sym is ∙ found ∙ ap (λ (t : List ℕ). seat_of t tag) told
 
 pub returns-then-row_count-i : goal.returns-then-row_count-i
 returns-then-row_count-i c = sym (past_the_end _ _ _ _ _ (omega (arith, c.row_count.ensures)))
@@ -40,16 +34,20 @@ returns-in_default c =
 
 pub column_at-column-requires : goal.column_at-column-requires
 column_at-column-requires c =
+    let a = c.args in
     let pre = c.requires in
-    (omega (arith, there c, pre.shape.whole, ap length c.record_of-table.ensures), omega (arith, there c, pre.shape.whole, record_short _ pre))
+    let there = seat_inside _ pre.shape _ _ (sought a.block.now _ a.tag _ c.in-At.index c.record_of-table.ensures c.seat_of-seat.ensures c.in-At.is) in
+    (omega (arith, there, pre.shape.whole, ap length c.record_of-table.ensures), omega (arith, there, pre.shape.whole, record_short _ pre))
 
 pub cell_at-requires : goal.cell_at-requires
 cell_at-requires c =
+    let a = c.args in
     let pre = c.requires in
     let told = c.record_of-table.ensures in
     let column = c.column_at-column.ensures.0 ∙ ap (λ (t : List ℕ). column_at t c.in-At.index) told in
     let short = rw column at c.column_at-column.ensures.3 in
-    rw (told, column) (pre.heap, pre.shape, pre.columns.each _ (there c), ap length c.row_at.ensures ∙ row_length _ _ _ (omega (arith, c.row_count.ensures)), short)
+    let there = seat_inside _ pre.shape _ _ (sought a.block.now _ a.tag _ c.in-At.index c.record_of-table.ensures c.seat_of-seat.ensures c.in-At.is) in
+    rw (told, column) (pre.heap, pre.shape, pre.columns.each _ there, ap length c.row_at.ensures ∙ row_length _ _ _ (omega (arith, c.row_count.ensures)), short)
 
 pub returns : goal.returns
 returns c =
@@ -59,4 +57,4 @@ returns c =
     c.cell_at.ensures
     ∙ ap (λ (t : List ℕ). cell_at a.block.now t c.row_at.result.now c.column_at-column.result) told
     ∙ ap₂ (λ (r : List ℕ) (k : Column). cell_at a.block.now (table_record a.block.now) r k) c.row_at.ensures column
-    ∙ sym (known_tag a.block.now (table_record a.block.now) a.bytes.now a.row a.tag _ (omega (arith, c.row_count.ensures)) (sought c))
+    ∙ sym (known_tag a.block.now (table_record a.block.now) a.bytes.now a.row a.tag _ (omega (arith, c.row_count.ensures)) (sought a.block.now _ a.tag _ c.in-At.index c.record_of-table.ensures c.seat_of-seat.ensures c.in-At.is))

@@ -116,7 +116,7 @@ loop-i-preserved c =
     ∙ sym (cell_own a.block.now a.rows.now sound inv.5 a.row inv.6 l.i there) in
     let room = take (length l.places - n) (drop n l.places) in (
       omega arith,
-      same_len_mid n (length l.places - n) l.places e.new.1.0 e.auto.1.0 ∙ inv.1,
+      same_len_mid n (length l.places - n) l.places e.new.words e.auto.words ∙ inv.1,
       inv.2,
       inv.3,
       inv.4,

@@ -12,13 +12,6 @@ use Rattle.rowcells.specs.declared.RowRead.TheVariants.{Cells, Refused}
 use Rattle.rowcells.proofs.ReadLaws.{read_absent, area_absent, read_short, area_kept, read_cells, area_filled}
 use Rattle.rowcells.proofs.read_in.Goals as goal
 
--- the counts that were read are the table's
-count_told : (s : tie.After-row-count) → s.row_count.result ≡ row_count (table_record s.before.before.before.before.before.args.block.now) (row_bytes s.before.before.before.before.before.args.block.now s.before.before.before.before.before.args.rows.now)
-count_told s = s.row_count.ensures ∙ ap (row_count (table_record s.before.before.before.before.before.args.block.now)) s.before.row-bytes.ensures
-
-columns-told : (s : tie.After-column-count) → s.column-count.result ≡ column_count (table_record s.before.before.before.before.before.before.before.before.args.block.now)
-columns-told s = s.column-count.ensures.0 ∙ ap column_count s.before.record_of.ensures
-
 pub row_bytes-requires : goal.row_bytes-requires
 row_bytes-requires c = (rows_exactly _ _).0 c.requires
 
@@ -29,7 +22,8 @@ pub returns-then-row_count-i : goal.returns-then-row_count-i
 returns-then-row_count-i c =
     let a = c.args in
     let held = c.requires in
-    (sym (read_absent _ _ _ held (omega (arith, count_told c)) _), sym (area_absent _ _ _ held (omega (arith, count_told c)) a.places.now))
+    let told = c.row_count.ensures ∙ ap (row_count (table_record a.block.now)) c.row_bytes.ensures in
+    record { answer = sym (read_absent _ _ _ held (omega (arith, told)) _); area = sym (area_absent _ _ _ held (omega (arith, told)) a.places.now) }
 
 pub record_of-requires : goal.record_of-requires
 record_of-requires c = ((rows_exactly _ _).0 c.requires).0
@@ -41,20 +35,17 @@ pub returns-then-places-count : goal.returns-then-places-count
 returns-then-places-count c =
     let a = c.args in
     let held = c.requires in
-    let many = columns-told c in (
-      c.short_area.ensures ∙ ap (λ (n : ℕ). Refused (ShortBuffer needing n)) many ∙ sym (read_short _ _ _ held (omega (arith, count_told c)) _ (omega (arith, many))),
-      sym (area_kept _ _ _ held (omega (arith, count_told c)) a.places.now (omega (arith, many))),
-    )
+    let told = c.row_count.ensures ∙ ap (row_count (table_record a.block.now)) c.row_bytes.ensures in
+    let many = c.column_count-count.ensures.0 ∙ ap column_count c.record_of.ensures in record { answer = c.short_area.ensures ∙ ap (λ (n : ℕ). Refused (ShortBuffer needing n)) many ∙ sym (read_short _ _ _ held (omega (arith, told)) _ (omega (arith, many))); area = sym (area_kept _ _ _ held (omega (arith, told)) a.places.now (omega (arith, many))) }
 
 pub fill-requires : goal.fill-requires
 fill-requires c =
-    (c.requires, omega (arith, count_told c), omega (arith, columns-told c))
+    let a = c.args in
+    (c.requires, omega (arith, c.row_count.ensures ∙ ap (row_count (table_record a.block.now)) c.row_bytes.ensures), omega (arith, c.column_count-count.ensures.0 ∙ ap column_count c.record_of.ensures))
 
 pub returns : goal.returns
 returns c =
     let a = c.args in
     let held = c.requires in
-    let many = columns-told c in (
-      ap Cells many ∙ sym (read_cells _ _ _ held (omega (arith, count_told c)) _ (omega (arith, many))),
-      c.fill.ensures ∙ sym (area_filled _ _ _ held (omega (arith, count_told c)) a.places.now (omega (arith, many))),
-    )
+    let told = c.row_count.ensures ∙ ap (row_count (table_record a.block.now)) c.row_bytes.ensures in
+    let many = c.column_count-count.ensures.0 ∙ ap column_count c.record_of.ensures in record { answer = ap Cells many ∙ sym (read_cells _ _ _ held (omega (arith, told)) _ (omega (arith, many))); area = c.fill.ensures ∙ sym (area_filled _ _ _ held (omega (arith, told)) a.places.now (omega (arith, many))) }

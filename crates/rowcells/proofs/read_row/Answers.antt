@@ -8,4 +8,4 @@ read_in-requires c = sym c.test_rows-verdict.ensures ∙ c.in-Accepted.is
 pub returns-in-Refused : goal.returns-in-Refused
 returns-in-Refused c =
     let e = sym c.test_rows-verdict.ensures ∙ c.in-Refused.is in
-    (sym (read_refused _ _ _ _ e _), sym (area_refused _ _ _ _ e _))
+    record { answer = sym (read_refused _ _ _ _ e _); area = sym (area_refused _ _ _ _ e _) }

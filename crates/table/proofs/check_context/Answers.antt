@@ -1,7 +1,8 @@
 use mathlib.Core.Path.{◌≡◌, sym, ap, ◌∙◌}
-use mathlib.Core.Bool.{true}
+use mathlib.Core.List.{List}
+use Prim.Native.Nat.{ℕ}
 use Rattle.laws.proofs.Tests.{fails, holds}
-use Rattle.heap.specs.Shape.{client_kind, user_root}
+use Rattle.heap.specs.Shape.{user_root}
 use Rattle.heap.specs.Items.{item_fits, item_part}
 use Rattle.heap.proofs.ItemLaws.{number_exactly}
 use Rattle.columns.specs.Record.{record_fits}

@@ -19,17 +19,19 @@ pub returns-then-column_count-i : goal.returns-then-column_count-i
 unfolding column_in
 returns-then-column_count-i c =
     let a = c.args in
-    rw (lt-leb (a.index + 1) (column_count (table_record a.block.now)) (omega (arith, c.column_count.ensures.0 ∙ ap column_count c.record_of-table.ensures)))
+    let told = c.column_count.ensures.0 ∙ ap column_count c.record_of-table.ensures in
+    rw (lt-leb (a.index + 1) (column_count (table_record a.block.now)) (omega (arith, told)))
 
 pub column_at-requires : goal.column_at-requires
 column_at-requires c =
-    let a = c.args in
+    let told = c.column_count.ensures.0 ∙ ap column_count c.record_of-table.ensures in
     let whole = c.requires.shape.whole in
-    (omega (arith, c.column_count.ensures.0 ∙ ap column_count c.record_of-table.ensures, whole, ap length c.record_of-table.ensures), omega (arith, c.column_count.ensures.0 ∙ ap column_count c.record_of-table.ensures))
+    (omega (arith, told, whole, ap length c.record_of-table.ensures), omega (arith, told))
 
 pub returns : goal.returns
 unfolding column_in
 returns c =
     let a = c.args in
-    rw (le-leb (a.index + 1) (column_count (table_record a.block.now)) (omega (arith, c.column_count.ensures.0 ∙ ap column_count c.record_of-table.ensures)))
+    let told = c.column_count.ensures.0 ∙ ap column_count c.record_of-table.ensures in
+    rw (le-leb (a.index + 1) (column_count (table_record a.block.now)) (omega (arith, told)))
     (ap Found (c.column_at.ensures.0 ∙ ap (λ (s : List ℕ). column_at s a.index) c.record_of-table.ensures))

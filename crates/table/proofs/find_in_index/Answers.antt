@@ -28,10 +28,16 @@ find_from-found-requires c =
     rw (c.row_index_item-root.ensures ∙ ap row_index_item c.record_of.ensures) (pre.0.heap, fair_tree c.args.tree pre.1, pre.2)
 
 pub overflow_add-place : goal.overflow_add-place
-overflow_add-place c = omega (arith, lies_at _ _ _ _ (told c.args.block.now c.args.tree _ c.args.id _ (c.row_index_item-root.ensures ∙ ap row_index_item c.record_of.ensures) c.find_from-found.ensures) _ c.in-At.is)
+overflow_add-place c =
+    let a = c.args in
+    let start = c.row_index_item-root.ensures ∙ ap row_index_item c.record_of.ensures in
+    omega (arith, lies_at _ _ _ _ (told a.block.now a.tree _ a.id _ start c.find_from-found.ensures) _ c.in-At.is)
 
 pub field_of-requires : goal.field_of-requires
-field_of-requires c = (omega (arith, lies_at _ _ _ _ (told c.args.block.now c.args.tree _ c.args.id _ (c.row_index_item-root.ensures ∙ ap row_index_item c.record_of.ensures) c.find_from-found.ensures) _ c.in-At.is), omega (arith, c.requires.1.2))
+field_of-requires c =
+    let a = c.args in
+    let start = c.row_index_item-root.ensures ∙ ap row_index_item c.record_of.ensures in
+    (omega (arith, lies_at _ _ _ _ (told a.block.now a.tree _ a.id _ start c.find_from-found.ensures) _ c.in-At.is), omega (arith, c.requires.1.2))
 
 pub overflow_cast-result : goal.overflow_cast-result
 overflow_cast-result c = omega (arith, c.field_of.ensures.1, number_fits_lem c.args.tree c.requires.1)
@@ -39,13 +45,19 @@ overflow_cast-result c = omega (arith, c.field_of.ensures.1, number_fits_lem c.a
 pub returns-in-At : goal.returns-in-At
 returns-in-At c =
     let a = c.args in
+    let start = c.row_index_item-root.ensures ∙ ap row_index_item c.record_of.ensures in
     let place = c.in-At.place in
     let number : c.field_of.result ≡ field a.block.now (place + a.tree.key) a.tree.entry = c.field_of.ensures.0 in
-    ap Row number ∙ row_at_lem a.tree a.block.now place
-    ∙ read_at a.tree a.block.now _ _ (told c.args.block.now c.args.tree _ c.args.id _ (c.row_index_item-root.ensures ∙ ap row_index_item c.record_of.ensures) c.find_from-found.ensures) _ _ _ _ c.in-At.is
+    ap Row number ∙ row_at_lem a.tree a.block.now place ∙ read_at a.tree a.block.now _ _ (told a.block.now a.tree _ a.id _ start c.find_from-found.ensures) _ _ _ _ c.in-At.is
 
 pub returns-in-Absent : goal.returns-in-Absent
-returns-in-Absent c = read_none _ _ _ _ (told c.args.block.now c.args.tree _ c.args.id _ (c.row_index_item-root.ensures ∙ ap row_index_item c.record_of.ensures) c.find_from-found.ensures) _ _ _ c.in-Absent.is
+returns-in-Absent c =
+    let a = c.args in
+    let start = c.row_index_item-root.ensures ∙ ap row_index_item c.record_of.ensures in
+    read_none _ _ _ _ (told a.block.now a.tree _ a.id _ start c.find_from-found.ensures) _ _ _ c.in-Absent.is
 
 pub returns-in-Refused : goal.returns-in-Refused
-returns-in-Refused c = read_wrong _ _ _ _ (told c.args.block.now c.args.tree _ c.args.id _ (c.row_index_item-root.ensures ∙ ap row_index_item c.record_of.ensures) c.find_from-found.ensures) _ _ _ _ c.in-Refused.is
+returns-in-Refused c =
+    let a = c.args in
+    let start = c.row_index_item-root.ensures ∙ ap row_index_item c.record_of.ensures in
+    read_wrong _ _ _ _ (told a.block.now a.tree _ a.id _ start c.find_from-found.ensures) _ _ _ _ c.in-Refused.is

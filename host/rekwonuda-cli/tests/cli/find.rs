@@ -1,7 +1,7 @@
 //! `find`: many nodes at once, each with an answer of its own.
 
 use crate::images::{sample, sound};
-use crate::runs::{file, folder, office, run, run_in, Run};
+use crate::runs::{file, folder, office, run, run_in, Folder, Run};
 use crate::spoilt::{changed, sealed};
 use model::build::{build, Built, PlacedPage, Plan};
 use model::page::Tree;
@@ -172,7 +172,7 @@ fn what_is_not_covered_has_status_4_as_in_every_command() {
 }
 
 /// A folder with the sample in it as `in.pst`.
-fn with_sample(name: &str) -> PathBuf {
+fn with_sample(name: &str) -> Folder {
     let folder = folder(name);
     fs::copy(office(), folder.join("in.pst")).unwrap();
     folder

@@ -1,6 +1,6 @@
 //! `check` of several files and of folders.
 
-use crate::runs::{emulated, file, folder, office, run, run_in, Run};
+use crate::runs::{emulated, file, folder, office, run, run_in, Folder, Run};
 use crate::spoilt::{flipped, sealed};
 use serde_json::Value;
 use std::fs::{self, File};
@@ -8,7 +8,7 @@ use std::os::unix::fs::symlink;
 use std::path::{Path, PathBuf};
 
 /// A folder with files of every kind, and what would lead a careless search astray.
-fn mixed(name: &str) -> PathBuf {
+fn mixed(name: &str) -> Folder {
     let top = folder(name);
     let deep = top.join("deep/deeper.pst");
     fs::create_dir_all(&deep).unwrap();
@@ -45,7 +45,6 @@ fn folders_are_searched_and_every_file_is_told() {
         assert_eq!((run.status, run.errors.as_str()), (2, ""));
         assert_eq!(run.text.lines().last(), Some(SUMMARY));
     }
-    fs::remove_dir_all(top).unwrap();
     assert_eq!(lines(&runs[0]), lines(&runs[1]));
     for told in [
         "accepted     ./a.pst",
@@ -69,7 +68,6 @@ fn folders_are_searched_and_every_file_is_told() {
 fn each_file_is_an_object_on_a_line() {
     let top = mixed("many_json");
     let run = run_in(&top, "./rekwonuda check --json .");
-    fs::remove_dir_all(top).unwrap();
     assert_eq!((run.status, run.errors.as_str()), (2, ""));
     let objects: Vec<Value> = run
         .text
@@ -89,7 +87,8 @@ fn the_worst_file_decides_the_exit_status() {
     let good = office();
     let bad = file("many_bad.pst", &flipped(100));
     let other = file("many_other.pst", &sealed(10, 36));
-    let empty = folder("many_empty");
+    let nothing = folder("many_empty");
+    let empty = nothing.to_path_buf();
     let none = Path::new("no/such.pst").to_path_buf();
     let cases: [(&[&PathBuf], i32); 6] = [
         (&[&good, &good], 0),
@@ -169,7 +168,6 @@ fn memory_is_bounded_by_the_number_of_jobs() {
             .unwrap();
     }
     let run = run_in(&top, "ulimit -v 300000; ./rekwonuda check --jobs 1 .");
-    fs::remove_dir_all(&top).unwrap();
     assert_eq!(run.status, 1, "{}", run.errors);
     assert!(run.says("6 files: 0 accepted, 6 damaged"), "{}", run.text);
 }

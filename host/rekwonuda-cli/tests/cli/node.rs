@@ -1,7 +1,7 @@
 //! `node`: the data of a node, and that nothing is harmed by writing it.
 
 use crate::images::{sample, sound};
-use crate::runs::{file, folder, listed, office, run, run_in, Run};
+use crate::runs::{file, folder, listed, office, run, run_in, Folder, Run};
 use crate::spoilt::{changed, with_tree};
 use model::Node;
 use std::fs;
@@ -65,7 +65,7 @@ fn write(folder: &Path, words: &str) -> Run {
 }
 
 /// A folder with the sample in it as `in.pst`.
-fn with_sample(name: &str) -> std::path::PathBuf {
+fn with_sample(name: &str) -> Folder {
     let folder = folder(name);
     fs::copy(office(), folder.join("in.pst")).unwrap();
     folder
@@ -166,7 +166,6 @@ fn what_is_no_plain_file_is_not_replaced() {
         assert!(run.errors.contains("is no plain file"), "{}", run.errors);
     }
     assert_eq!(listed(&folder), ["in.pst", "null", "pipe", "sub"]);
-    fs::remove_dir_all(folder).unwrap();
 }
 
 #[test]

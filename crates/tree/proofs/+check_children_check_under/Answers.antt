@@ -1,0 +1,88 @@
+use Prim.Native.Nat.{◌-◌}
+use mathlib.Core.Path.{refl, sym, ◌∙◌}
+use native.Mathlib.Omega.{arith}
+use Rattle.tree.specs.Answers.{kids_from}
+use Rattle.tree.proofs.Walk.{walk_none, walk_refused, walk_on, page_refused, page_alone, page_leaf, page_index}
+use Rattle.tree.proofs.Children.{more, no_more}
+use Rattle.tree.proofs.+check_children_check_under.Goals as goal
+use Rattle.tree.proofs.+check_children_check_under.Goals.{check_children-then-level-eq0+in-Accepted, check_children-else-level-eq0+in-Accepted-verdict}
+
+pub check_children-loop-i-init : goal.check_children-loop-i-init
+check_children-loop-i-init t c = (omega arith, refl)
+
+pub check_children-link_for-child-requires : goal.check_children-link_for-child-requires
+check_children-link_for-child-requires t c =
+    let pre = c.requires in
+    (pre.0, pre.1, c.entry_for-entry.ensures, c.count_for-count.ensures.0, omega arith)
+
+pub check_children-verdict_on-verdict-requires : goal.check_children-verdict_on-verdict-requires
+check_children-verdict_on-verdict-requires t c = c.requires.0
+
+pub check_children-returns-in_default : goal.check_children-returns-in_default
+check_children-returns-in_default t c =
+    let a = c.args in
+    let l = c.loop-i in
+    let child = c.link_for-child in
+    walk_refused a.l a.image.now a.level _ _ _ _ (more a.l a.image.now a.level a.p l.i child.result child.ensures).1 (page_alone a.l a.image.now a.level child.result _ c.verdict_on-verdict.ensures c.if-level-eq0.true) _ c.in_default.is ∙ l.invariant.1
+
+pub check_children-check_under-verdict-requires : goal.check_children-check_under-verdict-requires
+check_children-check_under-verdict-requires t c =
+    let pre = c.requires in
+    (omega arith, pre.0)
+
+pub check_children-returns-in_default-verdict : goal.check_children-returns-in_default-verdict
+check_children-returns-in_default-verdict t c =
+    let a = c.args in
+    let l = c.loop-i in
+    let child = c.link_for-child in
+    walk_refused a.l a.image.now a.level _ _ _ _ (more a.l a.image.now a.level a.p l.i child.result child.ensures).1 c.check_under-verdict.ensures _ c.in_default-verdict.is ∙ l.invariant.1
+
+pub check_children-overflow_add-i : goal.check_children-overflow_add-i
+check_children-overflow_add-i t c = omega arith
+
+pub check_children-loop-i-smaller : goal.check_children-loop-i-smaller
+check_children-loop-i-smaller t c = omega arith
+
+pub check_children-loop-i-preserved : goal.check_children-loop-i-preserved
+check_children-loop-i-preserved t c =
+    let a = c.args in
+    let l = c.loop-i in
+    let child = c.link_for-child in
+    let kids = (more a.l a.image.now a.level a.p l.i child.result child.ensures).1 in (
+      omega arith,
+      elim c.if-level-eq0.branch [
+        | check_children-then-level-eq0+in-Accepted w ↦ walk_on a.l a.image.now a.level _ _ _ _ kids (page_alone a.l a.image.now a.level child.result _ w.verdict_on-verdict.ensures w.if-level-eq0.true) w.in-Accepted.is
+        | check_children-else-level-eq0+in-Accepted-verdict w ↦ walk_on a.l a.image.now a.level _ _ _ _ kids w.check_under-verdict.ensures w.in-Accepted-verdict.is
+      ]
+          ∙ l.invariant.1,
+    )
+
+pub check_children-returns : goal.check_children-returns
+check_children-returns t c =
+    let a = c.args in
+    let l = c.loop-i in
+    let most = c.count_for-count.ensures.0 in
+    walk_none a.l a.image.now a.level (kids_from a.l a.image.now a.level a.p l.i) (no_more a.l a.image.now a.level a.p l.i (omega (arith, most))) ∙ l.invariant.1
+
+pub check_under-returns-in_default : goal.check_under-returns-in_default
+check_under-returns-in_default t c =
+    let a = c.args in
+    page_refused a.l a.image.now a.level a.p _ c.verdict_on-verdict.ensures _ c.in_default.is
+
+pub check_under-returns-then-level-eq0 : goal.check_under-returns-then-level-eq0
+check_under-returns-then-level-eq0 t c =
+    let a = c.args in
+    page_leaf a.l a.image.now a.level a.p _ c.verdict_on-verdict.ensures c.if-level-eq0.true c.in-Accepted.is
+
+pub check_under-overflow_sub-level : goal.check_under-overflow_sub-level
+check_under-overflow_sub-level t c = omega arith
+
+pub check_under-check_children-requires : goal.check_under-check_children-requires
+check_under-check_children-requires t c =
+    let pre = c.requires in
+    (omega arith, (pre, sym c.verdict_on-verdict.ensures ∙ c.in-Accepted.is))
+
+pub check_under-returns : goal.check_under-returns
+check_under-returns t c =
+    let a = c.args in
+    c.check_children.ensures ∙ page_index a.l a.image.now a.level a.p _ c.verdict_on-verdict.ensures c.if-level-eq0.false c.in-Accepted.is

@@ -1,0 +1,5 @@
+use Prim.Native.Nat.{◌-◌}
+use Rattle.tree.proofs.+seek.Given as goal
+
+abbrev pub decreases-seek : goal.decreases-seek
+decreases-seek l = l.level

@@ -1,0 +1,73 @@
+use Prim.Native.Nat.{◌-◌}
+use mathlib.Core.Path.{sym, ◌∙◌}
+use native.Mathlib.Omega.{arith}
+use Rattle.search.specs.SearchTree.{children}
+use Rattle.tree.specs.Tree.{page_tree}
+use Rattle.tree.proofs.Steps.{next_chosen, next_missing, chosen_level}
+use Rattle.tree.proofs.Ways.{end_leaf, leads_leaf, end_none, end_one, end_refused, leads_on, leads_nowhere, leads_refused}
+use Rattle.tree.proofs.+way_from.Goals as goal
+
+pub overflow_add-result : goal.overflow_add-result
+overflow_add-result t c = omega arith
+
+pub returns-then-level-eq0 : goal.returns-then-level-eq0
+returns-then-level-eq0 t c =
+    let a = c.args in
+    let pre = c.requires in
+    (end_leaf a.l a.image.now a.pages a.p pre.1 a.key a.level c.if-level-eq0.true, leads_leaf a.l a.image.now a.pages a.p pre.1 a.level c.if-level-eq0.true pre.2)
+
+pub overflow_sub-level : goal.overflow_sub-level
+overflow_sub-level t c = omega arith
+
+pub child_for-next-requires : goal.child_for-next-requires
+child_for-next-requires t c = (c.requires.0, c.requires.1)
+
+pub overflow_add-result-in_default : goal.overflow_add-result-in_default
+overflow_add-result-in_default t c = omega arith
+
+pub returns-in_default : goal.returns-in_default
+returns-in_default t c =
+    let a = c.args in
+    let pre = c.requires in (
+      end_none a.l a.image.now a.pages a.p pre.1 a.level c.if-level-eq0.false a.key (next_missing _ (sym c.child_for-next.ensures ∙ c.in_default.is)),
+      leads_nowhere a.l a.image.now _ _ _ _,
+    )
+
+pub verdict_on-verdict-requires : goal.verdict_on-verdict-requires
+verdict_on-verdict-requires t c = c.requires.0
+
+pub returns-in-Refused : goal.returns-in-Refused
+returns-in-Refused t c =
+    let a = c.args in
+    let pre = c.requires in
+    let went = next_chosen a.l a.image.now a.key (children (page_tree a.l a.image.now) (a.level - 1) a.p) _ (sym c.child_for-next.ensures ∙ c.in-Here.is) in (
+      end_refused a.l a.image.now a.pages a.p pre.1 a.level c.if-level-eq0.false c.in-Here.child a.key went _ (sym c.verdict_on-verdict.ensures ∙ c.in-Refused.is),
+      leads_refused a.l a.image.now _ _ _ _,
+    )
+
+pub overflow_sub-level-2 : goal.overflow_sub-level-2
+overflow_sub-level-2 t c = omega arith
+
+pub overflow_add-pages : goal.overflow_add-pages
+overflow_add-pages t c = omega arith
+
+pub way_from-requires : goal.way_from-requires
+way_from-requires t c =
+    let a = c.args in
+    let pre = c.requires in
+    let ok = sym c.verdict_on-verdict.ensures ∙ c.in_default-verdict.is in
+    let went = next_chosen a.l a.image.now a.key (children (page_tree a.l a.image.now) (a.level - 1) a.p) _ (sym c.child_for-next.ensures ∙ c.in-Here.is) in (
+      omega arith,
+      (pre.0, ok, chosen_level a.l a.image.now a.key (a.level - 1) a.p c.in-Here.child went ok, omega arith),
+    )
+
+pub returns : goal.returns
+returns t c =
+    let a = c.args in
+    let pre = c.requires in
+    let child = c.in-Here.child in
+    let went = next_chosen a.l a.image.now a.key (children (page_tree a.l a.image.now) (a.level - 1) a.p) _ (sym c.child_for-next.ensures ∙ c.in-Here.is) in
+    let index = c.if-level-eq0.false in (
+      c.way_from.ensures.0 ∙ end_one a.l a.image.now a.pages a.p pre.1 a.level index child a.key went,
+      leads_on a.l a.image.now a.pages a.p pre.1 a.level index child a.key went _ c.way_from.ensures.1,
+    )
