@@ -15,7 +15,7 @@ use Rattle.refusal.specs.declared.Fault.TheVariants.{ShortBuffer}
 use Rattle.refusal.specs.declared.Refusal.{Refusal}
 use Rattle.refusal.specs.declared.Verdict.{Verdict}
 use Rattle.refusal.specs.declared.Verdict.TheVariants as verdict
-use Rattle.refusal.specs.Order.{◌needing◌, rule, demand, in_order, after, ◌then◌, FirstFault}
+use Rattle.refusal.specs.Order.{◌needing◌, demand, in_order, after, ◌then◌, FirstFault}
 use Rattle.refusal.proofs.OrderLaws.{goes, ends, in_order_append, refused_exactly}
 use Rattle.keys.proofs.Pieces.{pieces_length, piece_at}
 use Rattle.columns.specs.Record.{column_count}

@@ -33,6 +33,7 @@ counted_sum n m (found e j) = let q : n + 1 + m + j ≡ n + (1 + (m + j)) = omeg
 counted_sum n m (absent j) = let q : n + 1 + m + j ≡ n + (1 + (m + j)) = omega arith in ap absent q
 counted_sum n m (refused r) = refl
 
+-- f is what was handed on of the first child's answer a, when n pages and this one had been read
 module _ (L : Layout) (n : ℕ) (a : Answer (List ℕ)) (f : Found) (first-is : f ≡ shown L (counted (n + 1) a)) where
   pub absent_pages : (m : ℕ) → f ≡ Absent m → (l : ℕ) → ((j : ℕ) → a ≡ absent j → j ≤ l + 1) → m ≤ n + 1 + (l + 1)
   unfolding shown counted

@@ -8,4 +8,4 @@ returns-then-is_internal c = rw (sym c.is_internal.ensures ∙ c.if-is_internal.
 
 pub returns : goal.returns
 unfolding plain
-returns c = rw (sym c.is_internal.ensures ∙ c.if-is_internal.false) c.decode.ensures.1
+returns c = rw (sym c.is_internal.ensures ∙ c.if-is_internal.false) c.decode.ensures.buffer

@@ -7,12 +7,13 @@ pub returns-in_default : goal.returns-in_default
 returns-in_default c =
     let a = c.args in
     let r = read_ends a.e a.image.now a.block a.out.now _ (sym c.check_block-checked.ensures ∙ c.in_default.is) in
-    (c.size_in.ensures ∙ size_of_refused _ _ c.in_default.is ∙ r.0, r.1)
+    record { answer = c.size_in.ensures ∙ size_of_refused _ _ c.in_default.is ∙ r.0; buffer = r.1 }
 
 pub returns-then-out-size : goal.returns-then-out-size
 returns-then-out-size c =
     let a = c.args in
-    read_short a.e a.image.now a.block a.out.now _ (sym c.check_block-checked.ensures ∙ c.in-Block.is) (omega arith)
+    let r = read_short a.e a.image.now a.block a.out.now _ (sym c.check_block-checked.ensures ∙ c.in-Block.is) (omega arith) in
+    record { answer = r.0; buffer = r.1 }
 
 pub block_into-requires : goal.block_into-requires
 block_into-requires c =
@@ -23,4 +24,4 @@ pub returns : goal.returns
 returns c =
     let a = c.args in
     let r = read_fills a.e a.image.now a.block a.out.now _ (sym c.check_block-checked.ensures ∙ c.in-Block.is) (omega arith) in
-    (r.0, c.block_into.ensures ∙ r.1)
+    record { answer = r.0; buffer = c.block_into.ensures ∙ r.1 }

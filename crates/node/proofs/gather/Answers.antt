@@ -18,35 +18,19 @@ use Rattle.block.proofs.BlockLaws.{checked_inside, checked_large, bytes_length}
 use Rattle.node.proofs.gather.Goals as goal
 
 -- the block of the i-th number: its bytes are the next to come, and there is room for them
-block_is : (c : tie.After-listed-at invariant-loop decreases-loop) →
-    let a = c.before.before.before.before.before.before.before.before.before.args in
-    checked_block a.e a.image.now (number_at a.e.tree a.root.now c.before.before.before.before.loop.i) ≡ Block c.listed_at.result
-block_is c =
-    let a = c.before.before.before.before.before.before.before.before.before.args in
-    sym (ap (checked_block a.e a.image.now) c.before.before.number_at.ensures) ∙ c.listed_at.ensures
+module _ (e : Edition) (image root : List ℕ) (count i n : ℕ) (b : Listed) (is : checked_block e image (number_at e.tree root i) ≡ Block b) (inside : i < count)
+    (left : drop n (joined (bytes_at e image) (numbers_from e.tree root 0 count)) ≡ joined (bytes_at e image) (rest e.tree root count i)) where
+  next_left : drop n (joined (bytes_at e image) (numbers_from e.tree root 0 count)) ≡ block_bytes image b ++ joined (bytes_at e image) (rest e.tree root count (i + 1))
+  next_left =
+      left
+      ∙ joined_rest (bytes_at e image) e.tree root count i inside
+      ∙ ap (λ (s : List ℕ). s ++ joined (bytes_at e image) (rest e.tree root count (i + 1))) (bytes_here e image _ _ is)
 
-next-left : (c : tie.After-listed-at invariant-loop decreases-loop) →
-    let a = c.before.before.before.before.before.before.before.before.before.args in
-    let l = c.before.before.before.before.loop in
-    drop l.n (joined (bytes_at a.e a.image.now) (numbers_from a.e.tree a.root.now 0 a.count))
-    ≡ block_bytes a.image.now c.listed_at.result ++ joined (bytes_at a.e a.image.now) (rest a.e.tree a.root.now a.count (l.i + 1))
-next-left c =
-    let a = c.before.before.before.before.before.before.before.before.before.args in
-    let l = c.before.before.before.before.loop in
-    l.invariant.4
-    ∙ joined_rest (bytes_at a.e a.image.now) a.e.tree a.root.now a.count l.i (omega arith)
-    ∙ ap (λ (s : List ℕ). s ++ joined (bytes_at a.e a.image.now) (rest a.e.tree a.root.now a.count (l.i + 1))) (bytes_here a.e a.image.now _ _ (block_is c))
+  size_is : length (block_bytes image b) ≡ b.size
+  size_is = bytes_length _ _ (checked_inside _ _ _ _ is)
 
-size_is : (c : tie.After-listed-at invariant-loop decreases-loop) → length (block_bytes c.before.before.before.before.before.before.before.before.before.args.image.now c.listed_at.result) ≡ c.listed_at.result.size
-size_is c = bytes_length _ _ (checked_inside _ _ _ _ (block_is c))
-
-space : (c : tie.After-listed-at invariant-loop decreases-loop) →
-    let a = c.before.before.before.before.before.before.before.before.before.args in
-    c.before.before.before.before.loop.n + c.listed_at.result.size ≤ length (joined (bytes_at a.e a.image.now) (numbers_from a.e.tree a.root.now 0 a.count))
-space c =
-    let a = c.before.before.before.before.before.before.before.before.before.args in
-    let l = c.before.before.before.before.loop in
-    omega (arith, size_is c, room_left _ (block_bytes a.image.now c.listed_at.result) _ l.n l.invariant.1 (next-left c))
+  space : n ≤ length (joined (bytes_at e image) (numbers_from e.tree root 0 count)) → n + b.size ≤ length (joined (bytes_at e image) (numbers_from e.tree root 0 count))
+  space most = omega (arith, size_is, room_left _ (block_bytes image b) _ n most next_left)
 
 pub check_root-start-requires : goal.check_root-start-requires
 check_root-start-requires c = (c.requires.0.0.blocks, c.requires.0.4)

@@ -74,7 +74,7 @@ loop-i-preserved c =
     let room = take (length l.places - n) (drop n l.places) in
     let node = get_or a.nodes.now l.i 0 in (
       omega arith,
-      same_len_mid n (length l.places - n) l.places e.new.1.0 e.auto.1.0 ∙ l.invariant.1,
+      same_len_mid n (length l.places - n) l.places e.new.words e.auto.words ∙ l.invariant.1,
       l.invariant.2,
       c.way_to-way.ensures.1,
       ap (λ (x : List ℕ). take n l.places ++ (x ++ drop (length l.places - n) (drop n l.places))) (e.ensures ∙ ap (λ (x : FoundNode). fronted (node_words x) room) c.node_at.ensures)

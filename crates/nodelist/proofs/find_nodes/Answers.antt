@@ -10,7 +10,7 @@ pub returns-then-count-gt4096 : goal.returns-then-count-gt4096
 returns-then-count-gt4096 c =
     let a = c.args in
     let e = too_many (length a.nodes.now) (length a.places.now) (omega arith) in
-    (c.short_area.ensures ∙ e, area_left a.l a.image.now a.nodes.now a.places.now _ e)
+    record { answer = c.short_area.ensures ∙ e; area = area_left a.l a.image.now a.nodes.now a.places.now _ e }
 
 -- fewer places than numbers
 pub short_area-requires-then-places-count : goal.short_area-requires-then-places-count
@@ -20,7 +20,7 @@ pub returns-then-places-count : goal.returns-then-places-count
 returns-then-places-count c =
     let lent = c.args in
     let e = too_short (length lent.nodes.now) (length lent.places.now) (omega arith) (omega arith) in
-    (c.short_area-then-places-count.ensures ∙ e, area_left lent.l lent.image.now lent.nodes.now lent.places.now _ e)
+    record { answer = c.short_area-then-places-count.ensures ∙ e; area = area_left lent.l lent.image.now lent.nodes.now lent.places.now _ e }
 
 pub fill-requires : goal.fill-requires
 fill-requires c = (search rules, omega arith, omega arith)
@@ -29,11 +29,11 @@ pub returns-then-count-gt0 : goal.returns-then-count-gt0
 returns-then-count-gt0 c =
     let a = c.args in
     let e = taken (length a.nodes.now) (length a.places.now) (omega arith) (omega arith) in
-    (e, c.fill.ensures ∙ area_filled a.l a.image.now a.nodes.now a.places.now e)
+    record { answer = e; area = c.fill.ensures ∙ area_filled a.l a.image.now a.nodes.now a.places.now e }
 
 -- an empty list
 pub returns-else-count-gt0 : goal.returns-else-count-gt0
 returns-else-count-gt0 c =
     let a = c.args in
     let e = taken (length a.nodes.now) (length a.places.now) (omega arith) (omega arith) in
-    (e, area_kept a.l a.image.now a.nodes.now a.places.now (omega arith) e)
+    record { answer = e; area = area_kept a.l a.image.now a.nodes.now a.places.now (omega arith) e }

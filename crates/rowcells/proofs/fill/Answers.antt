@@ -1,5 +1,5 @@
 use borrow.Rule.Slice.PartMut.{same_len_mid}
-use Prim.Native.Nat.{ℕ, ◌+◌, ◌-◌, ◌*◌, ◌≤◌, ◌<◌}
+use Prim.Native.Nat.{ℕ, ◌-◌, ◌*◌, ◌≤◌, ◌<◌}
 use mathlib.Core.Path.{◌≡◌, refl, sym, ap, ap₂, ◌∙◌}
 use mathlib.Core.List.{List, ◌++◌}
 use native.Mathlib.Omega.{arith}
@@ -16,7 +16,7 @@ use Rattle.columns.proofs.SeatLaws.{tags_length}
 use Rattle.table.specs.Context.{table_record, TableSound}
 use Rattle.table.proofs.ContextLaws.{record_long, record_short}
 use Rattle.cells.specs.declared.Cell.{Cell}
-use Rattle.cells.specs.Rows.{row_bytes, row_at}
+use Rattle.cells.specs.Rows.{row_at}
 use Rattle.cells.specs.Cells.{cell_at}
 use Rattle.cells.proofs.HeldLaws.{rows_exactly}
 use Rattle.cells.proofs.RowLaws.{row_length}

@@ -1,4 +1,4 @@
-use mathlib.Core.Path.{◌≡◌, sym, ap, ◌∙◌}
+use mathlib.Core.Path.{sym, ap, ◌∙◌}
 use Prim.Native.Nat.{ℕ}
 use native.Mathlib.Omega.{arith}
 use Rattle.refusal.specs.declared.Fault.TheVariants.{ShortBuffer}
@@ -6,7 +6,7 @@ use Rattle.refusal.specs.Order.{◌needing◌}
 use Rattle.columns.specs.Record.{column_count}
 use Rattle.table.specs.Context.{table_record}
 use Rattle.table.proofs.ContextLaws.{record_long}
-use Rattle.cells.specs.Rows.{row_bytes, row_count}
+use Rattle.cells.specs.Rows.{row_count}
 use Rattle.cells.proofs.HeldLaws.{rows_exactly}
 use Rattle.rowcells.specs.declared.RowRead.TheVariants.{Cells, Refused}
 use Rattle.rowcells.proofs.ReadLaws.{read_absent, area_absent, read_short, area_kept, read_cells, area_filled}

@@ -4,7 +4,7 @@ use lib.ListN.{length}
 use Rattle.asked.proofs.nodes.list_nodes.Given as goal
 
 abbrev pub invariant-loop-left : goal.invariant-loop-left
-invariant-loop-left l = (l.left ≤ 60) × (length l.out ≡ length l.initial.out)
+invariant-loop-left g l = (l.left ≤ 60) × (length l.out ≡ length l.initial.out)
 
 abbrev pub decreases-loop-left : goal.decreases-loop-left
-decreases-loop-left l = l.left
+decreases-loop-left g l = l.left

@@ -2,7 +2,7 @@ use Prim.Native.Nat.{◌≤◌}
 use Rattle.shown.proofs.trees.list.Given as goal
 
 abbrev pub invariant-loop-left : goal.invariant-loop-left
-invariant-loop-left l = l.left ≤ 60
+invariant-loop-left g l = l.left ≤ 60
 
 abbrev pub decreases-loop-left : goal.decreases-loop-left
-decreases-loop-left l = l.left
+decreases-loop-left g l = l.left

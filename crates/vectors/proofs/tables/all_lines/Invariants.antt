@@ -3,7 +3,7 @@ use lib.ListN.{length}
 use Rattle.vectors.proofs.tables.all_lines.Given as goal
 
 abbrev pub invariant-loop-table : goal.invariant-loop-table
-invariant-loop-table l = l.at ≤ length l.letters
+invariant-loop-table g l = l.at ≤ length l.letters
 
 abbrev pub decreases-loop-table : goal.decreases-loop-table
-decreases-loop-table l = 8 - l.table
+decreases-loop-table g l = 8 - l.table

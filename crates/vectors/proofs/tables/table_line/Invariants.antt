@@ -3,7 +3,7 @@ use lib.ListN.{length}
 use Rattle.vectors.proofs.tables.table_line.Given as goal
 
 abbrev pub invariant-loop-byte : goal.invariant-loop-byte
-invariant-loop-byte l = (l.at ≤ length l.letters) × (l.numbers ≤ l.byte) × (l.byte ≤ 256)
+invariant-loop-byte g l = (l.at ≤ length l.letters) × (l.numbers ≤ l.byte) × (l.byte ≤ 256)
 
 abbrev pub decreases-loop-byte : goal.decreases-loop-byte
-decreases-loop-byte l = 256 - l.byte
+decreases-loop-byte g l = 256 - l.byte
