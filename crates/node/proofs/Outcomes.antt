@@ -5,9 +5,6 @@ use mathlib.Core.Bool.{true, false, ◌&&◌}
 use mathlib.Core.Logic.{inl, inr}
 use mathlib.Core.List.{List, [], ◌∷◌}
 use native.Mathlib.Omega.{arith}
-use types.Run.{OneOf}
-use denote.Enum.Declared.{tag_of}
-use Rattle.tree.specs.contracts.FoundNode.{the_type}
 use lib.Dec.{leb, eqb}
 use lib.ListN.{length}
 use borrow.Author.Tests.{leb-true, eqb-true, le-leb, lt-leb, eq-eqb, ne_eqb}
@@ -197,15 +194,11 @@ module _ (E : Edition) (image : List ℕ) (number : ℕ) where
   unfolding node_content found_content
   node_refused r e = ap (found_content E image) e
 
--- a lookup that did not find the node: its variant is one of the other two
-not_first : OneOf (1 ∷ 2 ∷ []) 0 → ⊥
-not_first (inl e) = omega arith
-not_first (inr e) = omega arith
-
-pub gone_outcome : (E : Edition) (image : List ℕ) (number : ℕ) (f : FoundNode) (out : List ℕ) → f ≡ node_of E.nodes image number → OneOf (1 ∷ 2 ∷ []) (tag_of the_type f)
+-- a lookup that did not find the node
+pub gone_outcome : (E : Edition) (image : List ℕ) (number : ℕ) (f : FoundNode) (out : List ℕ) → f ≡ node_of E.nodes image number → ((n : Node) (pages : ℕ) → f ≡ node.Found n pages → ⊥)
     → Outcome (node_content E image number) out (gone_read f) out
 unfolding gone_read
-gone_outcome E image number (node.Found n pages) out e k = absurd (not_first k)
+gone_outcome E image number (node.Found n pages) out e k = absurd (k n pages refl)
 gone_outcome E image number (node.Absent pages) out e k = outcome_of absent _ out _ out (node_absent E image number pages (sym e)) (absent_outcome out)
 gone_outcome E image number (node.Refused r) out e k = outcome_of (refused r) _ out _ out (node_refused E image number r (sym e)) (refused_outcome r out)
 

@@ -1,16 +1,14 @@
-use mathlib.Core.Path.{◌≡◌, sym, ap₂, ◌∙◌}
+use mathlib.Core.Path.{sym, ap₂, ◌∙◌}
 use Prim.Native.Nat.{ℕ}
 use mathlib.Core.List.{List}
 use native.Mathlib.Omega.{arith}
 use Rattle.keys.specs.declared.Seat.{Seat}
-use Rattle.keys.specs.declared.Seat.TheVariants.{At}
 use Rattle.keys.specs.declared.Sought.TheVariants.{Equal}
 use Rattle.keys.specs.Records.{keys_of}
 use Rattle.keys.specs.Search.{first_that}
 use Rattle.heap.specs.Items.{item_part}
 use Rattle.heaptree.specs.declared.HeapTree.{HeapTree}
 use Rattle.heaptree.specs.Value.{leaf_shape}
-use Rattle.heaptree.specs.Branches.{record_count}
 use Rattle.heaptree.proofs.RecordLaws.{records_hold, leaf_lies, leaf_at, leaf_none}
 use Rattle.heaptree.proofs.find_in_leaf.Goals as goal
 

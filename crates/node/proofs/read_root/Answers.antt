@@ -14,7 +14,7 @@ pub returns-then-not-shape_fits : goal.returns-then-not-shape_fits
 returns-then-not-shape_fits c =
     let a = c.args in
     let o = outcome_of _ _ a.out.now _ _ (tree_shapeless a.e a.image.now a.offset a.root.now (fails _ _ c.shape_fits.ensures c.if-not-shape_fits.true)) (refused_outcome _ a.out.now) in
-    (c.no_data_tree.ensures ∙ o.0, o.1)
+    record { answer = c.no_data_tree.ensures ∙ o.0; buffer = o.1 }
 
 pub field2-count-requires : goal.field2-count-requires
 field2-count-requires c =
@@ -35,7 +35,7 @@ returns-in_default c =
     let told = c.in_default.is in
     let f = failed a.e a.image.now a.root.now c.field2-count.result _ c.field2-count.ensures c.measure-measured.ensures _ told in
     let o = outcome_of _ _ a.out.now _ _ (tree_fault a.e a.image.now a.offset a.root.now (holds _ _ c.shape_fits.ensures c.if-not-shape_fits.false) _ f) (refused_outcome _ a.out.now) in
-    (c.refused_sum.ensures ∙ refused_sum_is _ _ told ∙ o.0, o.1)
+    record { answer = c.refused_sum.ensures ∙ refused_sum_is _ _ told ∙ o.0; buffer = o.1 }
 
 pub field4-requires : goal.field4-requires
 field4-requires c =
@@ -48,7 +48,7 @@ returns-then-sum-field4 c =
     let a = c.args in
     let p = passed a.e a.image.now a.root.now c.field2-count.result _ c.field2-count.ensures c.measure-measured.ensures _ c.in-Sum.is in
     let o = outcome_of _ _ a.out.now _ _ (tree_other_sum a.e a.image.now a.offset a.root.now (holds _ _ c.shape_fits.ensures c.if-not-shape_fits.false) p.kids p.are (λ e. c.if-sum-field4.true (sym p.sum ∙ e ∙ sym c.field4.ensures))) (refused_outcome _ a.out.now) in
-    (c.no_data_tree-then-sum-field4.ensures ∙ o.0, o.1)
+    record { answer = c.no_data_tree-then-sum-field4.ensures ∙ o.0; buffer = o.1 }
 
 pub returns-then-out-sum : goal.returns-then-out-sum
 unfolding count_in
@@ -56,7 +56,7 @@ returns-then-out-sum c =
     let a = c.args in
     let p = passed a.e a.image.now a.root.now c.field2-count.result _ c.field2-count.ensures c.measure-measured.ensures _ c.in-Sum.is in
     let o = outcome_of _ _ a.out.now _ _ (tree_bytes a.e a.image.now a.offset a.root.now (holds _ _ c.shape_fits.ensures c.if-not-shape_fits.false) p.kids p.are (p.sum ∙ c.if-sum-field4.false ∙ c.field4.ensures)) (short_outcome _ a.out.now _ (sym p.long) (omega arith)) in
-    (c.short_buffer.ensures ∙ o.0, o.1)
+    record { answer = c.short_buffer.ensures ∙ o.0; buffer = o.1 }
 
 pub gather-requires : goal.gather-requires
 unfolding count_in
@@ -65,7 +65,7 @@ gather-requires c =
     let s = shape_of a.e.tree a.root.now (holds _ _ c.shape_fits.ensures c.if-not-shape_fits.false) in
     let p = passed a.e a.image.now a.root.now c.field2-count.result _ c.field2-count.ensures c.measure-measured.ensures _ c.in-Sum.is in
     let f = c.field2-count.ensures in
-    ((c.requires.0, omega (arith, s.size, same_whole a.e.tree.word f), omega arith, p.listed, c.requires.1), omega (arith, ap length p.joins, p.long))
+    record { fair_edition = (c.requires.0, omega (arith, s.size, same_whole a.e.tree.word f), omega arith, p.listed, c.requires.1); count_in_bounds = omega (arith, ap length p.joins, p.long) }
 
 pub returns : goal.returns
 unfolding count_in
@@ -73,4 +73,4 @@ returns c =
     let a = c.args in
     let p = passed a.e a.image.now a.root.now c.field2-count.result _ c.field2-count.ensures c.measure-measured.ensures _ c.in-Sum.is in
     let o = outcome_of _ _ a.out.now _ _ (tree_bytes a.e a.image.now a.offset a.root.now (holds _ _ c.shape_fits.ensures c.if-not-shape_fits.false) p.kids p.are (p.sum ∙ c.if-sum-field4.false ∙ c.field4.ensures)) (done_outcome _ a.out.now _ (sym p.long) (omega arith)) in
-    (o.0, c.gather.ensures ∙ ap (λ (s : List ℕ). fronted s a.out.now) p.joins ∙ o.1)
+    record { answer = o.0; buffer = c.gather.ensures ∙ ap (λ (s : List ℕ). fronted s a.out.now) p.joins ∙ o.1 }
