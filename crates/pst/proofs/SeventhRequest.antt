@@ -95,6 +95,7 @@ OnlyTest t target (x ∷ rs) = (x.refusal ≡ target → x.test ≡ t) × OnlyTe
 only_test : (t : Bool) (target : Refusal) (rs : List Rule) (r : Refusal) → r ≡ target → OnlyTest t target rs → FirstFault rs r → t ≡ false
 only_test t target (x ∷ rs) r e h (here q) = sym (h.0 e) ∙ q
 only_test t target (x ∷ rs) r e h (later q f) = only_test t target rs r e h.1 f
+only_test t target [] r e h x3 = elim x3 [ ]
 
 elsewhere : {A : Type 0} (r : Refusal) → (r.place ≡ 10 → ⊥) → r ≡ Version at 10 → A
 elsewhere r n e = absurd (n (ap (λ (s : Refusal). s.place) e))

@@ -1,13 +1,12 @@
 use Rattle.table.proofs.ContextLaws.{record_short}
 use mathlib.Core.Path.{◌≡◌, sym, ap, ap₂, ◌∙◌}
-use Prim.Native.Nat.{ℕ, ◌<◌}
+use Prim.Native.Nat.{ℕ}
 use mathlib.Core.List.{List}
 use native.Mathlib.Omega.{arith}
 use lib.ListN.{length}
 use Rattle.keys.specs.declared.Seat.{Seat}
 use Rattle.keys.specs.declared.Seat.TheVariants.{At}
 use Rattle.columns.specs.declared.Column.{Column}
-use Rattle.columns.specs.Record.{column_count}
 use Rattle.columns.specs.Columns.{column_at, seat_of}
 use Rattle.columns.proofs.SeatLaws.{seat_inside}
 use Rattle.table.specs.Context.{table_record}

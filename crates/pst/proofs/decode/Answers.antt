@@ -5,4 +5,4 @@ use Rattle.pst.proofs.decode.Goals as goal
 
 pub returns : goal.returns
 unfolding code_outcome decode_buffer
-returns c = (ap verdict_means c.decode.ensures.0, c.decode.ensures.1)
+returns c = record { answer = ap verdict_means c.decode.ensures.answer; buffer = c.decode.ensures.buffer }

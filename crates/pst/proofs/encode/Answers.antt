@@ -5,4 +5,4 @@ use Rattle.pst.proofs.encode.Goals as goal
 
 pub returns : goal.returns
 unfolding code_outcome encode_buffer
-returns c = (ap verdict_means c.encode.ensures.0, c.encode.ensures.1)
+returns c = record { answer = ap verdict_means c.encode.ensures.answer; buffer = c.encode.ensures.buffer }

@@ -16,4 +16,4 @@ returns c =
     let a = c.args in
     let done = c.find_nodes.ensures in
     let choice = c.nodes_of.ensures in
-    (ap verdict_means done.0, done.1 ∙ ap (λ (l : Layout). area_of l a.image.now a.nodes.now a.places.now) choice)
+    record { answer = ap verdict_means done.answer; area = done.area ∙ ap (λ (l : Layout). area_of l a.image.now a.nodes.now a.places.now) choice }

@@ -18,5 +18,5 @@ returns c =
     let done = c.read_block.ensures in
     let choice = c.edition_of.ensures in
     let e = c.edition_of.result in
-    let answer : c.read_block.result ≡ read_of e a.image.now a.block (length a.out.now) = done.0 in
-    (ap sized_means (answer ∙ ap (λ (e : Edition). read_of e a.image.now a.block (length a.out.now)) choice), done.1 ∙ ap (λ (e : Edition). filled_of e a.image.now a.block a.out.now) choice)
+    let answer : c.read_block.result ≡ read_of e a.image.now a.block (length a.out.now) = done.answer in
+    record { answer = ap sized_means (answer ∙ ap (λ (e : Edition). read_of e a.image.now a.block (length a.out.now)) choice); buffer = done.buffer ∙ ap (λ (e : Edition). filled_of e a.image.now a.block a.out.now) choice }

@@ -18,5 +18,5 @@ returns c =
     let done = c.read_node.ensures in
     let choice = c.edition_of.ensures in
     let e = c.edition_of.result in
-    let answer : c.read_node.result ≡ answer_to (node_content e a.image.now a.node) (length a.out.now) = done.0 in
-    (ap data_means (answer ∙ ap (λ (e : Edition). answer_to (node_content e a.image.now a.node) (length a.out.now)) choice), done.1 ∙ ap (λ (e : Edition). filled_by (node_content e a.image.now a.node) a.out.now) choice)
+    let answer : c.read_node.result ≡ answer_to (node_content e a.image.now a.node) (length a.out.now) = done.answer in
+    record { answer = ap data_means (answer ∙ ap (λ (e : Edition). answer_to (node_content e a.image.now a.node) (length a.out.now)) choice); buffer = done.buffer ∙ ap (λ (e : Edition). filled_by (node_content e a.image.now a.node) a.out.now) choice }

@@ -5,4 +5,4 @@ use Rattle.pst.proofs.read_row.Goals as goal
 
 pub returns : goal.returns
 unfolding read_row_outcome read_row_area
-returns c = (ap cells_means c.read_row.ensures.0, c.read_row.ensures.1)
+returns c = record { answer = ap cells_means c.read_row.ensures.answer; area = c.read_row.ensures.area }

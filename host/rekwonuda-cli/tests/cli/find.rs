@@ -7,7 +7,7 @@ use model::build::{build, Built, PlacedPage, Plan};
 use model::page::Tree;
 use serde_json::{json, Value};
 use std::fs::{self, File};
-use std::path::{Path, PathBuf};
+use std::path::Path;
 
 const HEAD: &str =
     "      node  type                            parent                data             subnode  pages\n";
