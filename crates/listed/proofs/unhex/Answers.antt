@@ -1,4 +1,3 @@
-use Prim.Native.Nat.{◌-◌}
 use lib.ListN.{length-set, length-take}
 use native.Mathlib.Omega.{arith}
 use Rattle.listed.proofs.unhex.Goals as goal
