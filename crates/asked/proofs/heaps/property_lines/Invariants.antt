@@ -1,4 +1,4 @@
-use Prim.Native.Nat.{◌≤◌, ◌<◌, ◌-◌}
+use Rattle.std.proofs.Common.{◌≤◌, ◌<◌, ◌-◌}
 use Rattle.asked.proofs.heaps.property_lines.Given as goal
 
 abbrev pub invariant-loop-id : goal.invariant-loop-id

@@ -1,6 +1,4 @@
-use Prim.Native.Nat.{◌≤◌}
-use mathlib.Core.Path.{◌≡◌}
-use lib.ListN.{length}
+use Rattle.std.proofs.Common.{◌≤◌, ◌≡◌, length}
 use Rattle.asked.proofs.nodes.list_nodes.Given as goal
 
 abbrev pub invariant-loop-left : goal.invariant-loop-left

@@ -1,4 +1,4 @@
-use Prim.Native.Nat.{◌-◌, ◌≤◌}
+use Rattle.std.proofs.Common.{◌-◌, ◌≤◌}
 use Rattle.contexts.proofs.values.column_cells.Given as goal
 
 abbrev pub invariant-loop-index : goal.invariant-loop-index

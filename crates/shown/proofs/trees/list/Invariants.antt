@@ -1,4 +1,4 @@
-use Prim.Native.Nat.{◌≤◌}
+use Rattle.std.proofs.Common.{◌≤◌}
 use Rattle.shown.proofs.trees.list.Given as goal
 
 abbrev pub invariant-loop-left : goal.invariant-loop-left

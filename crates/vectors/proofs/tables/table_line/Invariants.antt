@@ -1,5 +1,4 @@
-use Prim.Native.Nat.{◌≤◌, ◌-◌}
-use lib.ListN.{length}
+use Rattle.std.proofs.Common.{◌≤◌, ◌-◌, length}
 use Rattle.vectors.proofs.tables.table_line.Given as goal
 
 abbrev pub invariant-loop-byte : goal.invariant-loop-byte
