@@ -1,6 +1,6 @@
 -- Blocks under numbers that differ only in bit 0 are one block. Assumes nothing.
 use Prim.Native.Nat.{ℕ}
-use mathlib.Core.Path.{◌≡◌, refl, ap}
+use mathlib.Core.Path.{◌≡◌, ap}
 use mathlib.Core.List.{List}
 use Rattle.keys.specs.Records.{cleared}
 use Rattle.tree.specs.Answers.{shown, as_block, block_of}

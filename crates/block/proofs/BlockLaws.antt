@@ -32,7 +32,6 @@ use Rattle.block.specs.declared.Checked.TheVariants as checked
 use Rattle.block.specs.declared.Sized.TheVariants as sized
 use Rattle.laws.specs.Front.{fronted}
 use Rattle.block.specs.Block.{room_for, stored, trailer_of, place_fits, trailer_rules, block_rules, block_fits, tested_by, checked_block, size_in, internal, plain, block_bytes, fitting, read_in, read_of, filled_in, filled_of}
-use Rattle.edition.specs.Fair.{FairTrailer}
 
 -- the room holds the data and the trailer, and is the smallest multiple of 64 that does
 pub room_holds : (t : Trailer) (size : ℕ) → size + t.length ≤ room_for t size

@@ -1,12 +1,9 @@
 -- What upper layers may know of an image's edition. Assumes nothing.
-use Prim.Native.Nat.{ℕ, ◌≤◌}
-use mathlib.Core.Path.{◌≡◌, refl, sym, ap, ◌∙◌}
+use Prim.Native.Nat.{ℕ}
+use mathlib.Core.Path.{◌≡◌, refl}
 use mathlib.Core.Bool.{Bool, true, false, cond}
 use mathlib.Core.Logic.{◌⊎◌, inl, inr}
 use mathlib.Core.List.{List}
-use native.Mathlib.Omega.{arith}
-use lib.ListN.{length}
-use Rattle.edition.specs.declared.Edition.{Edition}
 use Rattle.edition.specs.Editions.{edition64, edition32}
 use Rattle.edition.specs.Fair.{FairPlaces, FairLayout, FairEdition}
 use Rattle.edition.proofs.Fairs.{fair_edition64, fair_edition32}

@@ -1,14 +1,12 @@
 -- Images that are alike to the file's end: which they are, and that their headers are answered alike. Assumes nothing.
 use Prim.Native.Nat.{ℕ, ◌+◌, ◌≤◌}
-use mathlib.Core.Path.{◌≡◌, refl, sym, ap, ap₂, ◌∙◌}
+use mathlib.Core.Path.{◌≡◌, sym, ap, ap₂, ◌∙◌}
 use mathlib.Core.Bool.{true, false}
 use mathlib.Core.Logic.{◌↔◌}
 use mathlib.Core.List.{List, [], ◌∷◌, ◌++◌}
 use native.Mathlib.Omega.{arith}
-use lib.Dec.{eqb}
 use lib.ListN.{length, length-append}
-use borrow.Author.Tests.{le-leb, lt-leb, leb-false, eq-eqb}
-use Rattle.laws.proofs.Tests.{not_both}
+use borrow.Author.Tests.{le-leb, lt-leb, leb-false}
 use Rattle.le.specs.Bytes.{part}
 use Rattle.le.proofs.FieldLaws.{part_kept}
 use Rattle.refusal.specs.declared.Fault.TheVariants.{ImageLength, Encoding}

@@ -11,7 +11,7 @@ use Rattle.refusal.specs.Order.{◌at◌, Rule, rule}
 use Rattle.edition.specs.declared.Edition.{Edition}
 use Rattle.edition.specs.Editions.{places64, nbt64, bbt64, edition64}
 use Rattle.header.specs.declared.Header.{Header}
-use Rattle.header.specs.Header.{length_fits, magic_fits, client_fits, version_of, older, version_fits, edition_of, header_sum_fits, whole_fits, sentinel_fits, method_of, encoding_fits, stated_end, end_fits, mark_rules, seal_rules, last_rules, header_rules, reference_at, root_at, says, file_end}
+use Rattle.header.specs.Header.{length_fits, magic_fits, client_fits, version_of, older, version_fits, header_sum_fits, whole_fits, sentinel_fits, method_of, encoding_fits, stated_end, end_fits, mark_rules, seal_rules, last_rules, header_rules, reference_at, root_at, says, file_end}
 use Rattle.header.specs.Former.{rules64, says64, end64}
 use Rattle.header.proofs.EditionLaws.{newer_is}
 

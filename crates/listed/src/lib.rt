@@ -1,7 +1,7 @@
 // Files of hexadecimal text that list what is expected, and lines of output that say whether it is so.
 #![tactic(auto)]
 
-ghost use Rattle.std.specs.Prelude.{◌≤◌, ◌<◌, length, IfOk};
+ghost use Rattle.std.specs.Prelude.{◌≡◌, ◌≤◌, ◌<◌, length, IfOk, OnErr};
 ghost use Rattle.std.specs.Counts.{IsPrefixLen};
 
 use said::Loaded;
@@ -57,7 +57,8 @@ pub fn load_hex(
     name: &[u8],
     out: &mut [u8],
 ) -> io::Result<Loaded>
-    ensures { IfOk result (λ loaded. IsPrefixLen loaded.size out.new) }
+    ensures loaded { IfOk result (λ loaded. IsPrefixLen loaded.size out.new) }
+    ensures unwritten { OnErr result (out.new ≡ out.old) }
 {
     let mut letters = [0u8; 4096];
     let file = said::load(rt, name, &mut letters)?;

@@ -41,8 +41,8 @@ module _ (E : Edition) (fair : FairEdition E) (first second : List ℕ) (alike :
   unfolding joined
   joined_alike [] [] none = refl
   joined_alike (n ∷ ns) (b ∷ bs) (one e h) = ap₂ ◌++◌ (bytes_same E fair first second alike n b e) (joined_alike ns bs h)
-  joined_alike [] (b ∷ bs) x'' = elim x'' [ ]
-  joined_alike (n ∷ ns) [] x3 = elim x3 [ ]
+  joined_alike [] (b ∷ bs) h = elim h [ ]
+  joined_alike (n ∷ ns) [] h = elim h [ ]
 
   gathered_alike : (offset : ℕ) (g ns : List ℕ) → gathered first offset g (kids_of E first ns) ≡ gathered second offset g (kids_of E second ns)
   unfolding gathered

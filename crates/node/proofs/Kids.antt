@@ -85,14 +85,14 @@ pub of_listing : (E : Edition) (image ns : List ℕ) (bs : List Listed) → List
 unfolding kids_of and_kids
 of_listing E image [] [] none = refl
 of_listing E image (n ∷ ns) (b ∷ bs) (one q l) = ap₂ and_kids q (of_listing E image ns bs l)
-of_listing E image [] (b ∷ bs) x'' = elim x'' [ ]
-of_listing E image (n ∷ ns) [] x3 = elim x3 [ ]
+of_listing E image [] (b ∷ bs) h = elim h [ ]
+of_listing E image (n ∷ ns) [] h = elim h [ ]
 
 pub all_listed : (E : Edition) (image ns : List ℕ) (bs : List Listed) → ListedAs E image ns bs → AllListed E image ns
 all_listed E image [] [] none = tt
 all_listed E image (n ∷ ns) (b ∷ bs) (one q l) = (record { block = b; is = q }, all_listed E image ns bs l)
-all_listed E image [] (b ∷ bs) x'' = elim x'' [ ]
-all_listed E image (n ∷ ns) [] x3 = elim x3 [ ]
+all_listed E image [] (b ∷ bs) h = elim h [ ]
+all_listed E image (n ∷ ns) [] h = elim h [ ]
 
 -- the bytes under the numbers are those of the blocks, and as many as the sum of sizes
 pub bytes_here : (E : Edition) (image : List ℕ) (n : ℕ) (b : Listed) → checked_block E image n ≡ checked.Block b → bytes_at E image n ≡ block_bytes image b
@@ -103,8 +103,8 @@ pub joined_blocks : (E : Edition) (image ns : List ℕ) (bs : List Listed) → L
 joined_blocks E image [] [] none = joined_nil (bytes_at E image) ∙ sym (joined_nil (block_bytes image))
 joined_blocks E image (n ∷ ns) (b ∷ bs) (one q l) =
     joined_more (bytes_at E image) n ns ∙ ap₂ ◌++◌ (bytes_here E image n b q) (joined_blocks E image ns bs l) ∙ sym (joined_more (block_bytes image) b bs)
-joined_blocks E image [] (b ∷ bs) x'' = elim x'' [ ]
-joined_blocks E image (n ∷ ns) [] x3 = elim x3 [ ]
+joined_blocks E image [] (b ∷ bs) h = elim h [ ]
+joined_blocks E image (n ∷ ns) [] h = elim h [ ]
 
 pub joined_length : (E : Edition) (image ns : List ℕ) (bs : List Listed) → ListedAs E image ns bs → length (joined (block_bytes image) bs) ≡ total bs
 unfolding total
@@ -113,8 +113,8 @@ joined_length E image (n ∷ ns) (b ∷ bs) (one q l) =
     ap length (joined_more (block_bytes image) b bs)
     ∙ length-append (block_bytes image b) (joined (block_bytes image) bs)
     ∙ ap₂ ◌+◌ (bytes_length image b (checked_inside E image n b q)) (joined_length E image ns bs l)
-joined_length E image [] (b ∷ bs) x'' = elim x'' [ ]
-joined_length E image (n ∷ ns) [] x3 = elim x3 [ ]
+joined_length E image [] (b ∷ bs) h = elim h [ ]
+joined_length E image (n ∷ ns) [] h = elim h [ ]
 
 -- the blocks of children that are all there
 pub kids_in : Kids → List Listed

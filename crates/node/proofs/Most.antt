@@ -32,8 +32,8 @@ module _ (E : Edition) (fair : FairEdition E) where
   unfolding total
   total_most image [] [] none = omega arith
   total_most image (n ∷ ns) (b ∷ bs) (one q l) = omega (arith, checked_size E image n b q, total_most image ns bs l, suc-mul (length ns) E.trailer.most)
-  total_most image [] (b ∷ bs) x'' = elim x'' [ ]
-  total_most image (n ∷ ns) [] x3 = elim x3 [ ]
+  total_most image [] (b ∷ bs) h = elim h [ ]
+  total_most image (n ∷ ns) [] h = elim h [ ]
 
   one_most : E.trailer.most ≤ most_data E
   unfolding most_data

@@ -26,7 +26,7 @@ use Rattle.table.specs.declared.FoundRow.{FoundRow}
 use Rattle.table.specs.declared.FoundRow.TheVariants as row
 use Rattle.table.specs.Context.{table_record, table_test, TableSound}
 use Rattle.table.specs.Says.{table_in, table_of, column_of}
-use Rattle.table.specs.RowIndex.{row_index, row_index32, row_id, row_rules, row_of, IndexSound, row_records}
+use Rattle.table.specs.RowIndex.{row_index, row_index32, row_id, row_of, IndexSound, row_records}
 use Rattle.table.proofs.ContextLaws.{table_exactly}
 use Rattle.table.proofs.IndexLaws.{table_on, column_on, column_refused}
 use Rattle.table.proofs.SaidLaws.{column_past, column_there}

@@ -1,8 +1,8 @@
 -- The two editions. Assumes nothing.
-use Prim.Native.Nat.{ℕ, ◌+◌, ◌*◌, ◌/◌, ◌%◌, ◌^◌, ◌≤◌, ◌<◌}
+use Prim.Native.Nat.{ℕ, ◌%◌, ◌^◌, ◌≤◌, ◌<◌}
 use mathlib.Core.Path.{◌≡◌, refl, sym, ap, ap₂, subst, ◌∙◌}
-use mathlib.Core.Bool.{Bool, true, false, ◌||◌}
-use mathlib.Core.Logic.{◌↔◌, ◌⊎◌, ◌≢◌, inl, inr, ⊎_elim}
+use mathlib.Core.Bool.{Bool, true, false}
+use mathlib.Core.Logic.{◌↔◌, ◌≢◌, inl, inr, ⊎_elim}
 use mathlib.Core.List.{List, [], ◌∷◌, map}
 use native.Mathlib.Nat.{mod-eq_of_lt}
 use native.Mathlib.Omega.{arith}
@@ -16,13 +16,13 @@ use Rattle.refusal.specs.declared.Refusal.{Refusal}
 use Rattle.refusal.specs.Order.{◌at◌, Rule, in_order, after, FirstFault, here, later}
 use Rattle.edition.specs.declared.Edition.{Edition}
 use Rattle.edition.specs.declared.Layout.{Layout}
-use Rattle.edition.specs.Editions.{nbt64, bbt64, trailer64, root64, edition64, bbt32, trailer32, root32, edition32}
+use Rattle.edition.specs.Editions.{trailer64, root64, edition64, bbt32, trailer32, root32, edition32}
 use Rattle.edition.specs.Fair.{FairEdition}
 use Rattle.edition.proofs.Fairs.{fair_edition64, fair_edition32}
 use Rattle.header.specs.declared.Header.{Header}
 use Rattle.header.specs.declared.HeaderAnswer.TheVariants.{Says}
 use Rattle.header.specs.declared.HeaderAnswer.TheVariants as header
-use Rattle.header.specs.Header.{length_fits, magic_fits, client_fits, version_of, older, version_fits, edition_of, blocks_of, mark_rules, seal_rules, last_rules, header_rules, says, header_fits, header_of}
+use Rattle.header.specs.Header.{length_fits, magic_fits, client_fits, version_of, older, version_fits, edition_of, blocks_of, mark_rules, seal_rules, last_rules, header_rules, header_fits, header_of}
 use Rattle.header.proofs.EditionLaws.{fair_places, older_is, newer_is, edition_one_of}
 use Rattle.header.proofs.FormerLaws.{rules_as_before, says_as_before, end_as_before}
 use Rattle.page.specs.Layout.{as_given, compared}
@@ -95,7 +95,7 @@ OnlyTest t target (x ∷ rs) = (x.refusal ≡ target → x.test ≡ t) × OnlyTe
 only_test : (t : Bool) (target : Refusal) (rs : List Rule) (r : Refusal) → r ≡ target → OnlyTest t target rs → FirstFault rs r → t ≡ false
 only_test t target (x ∷ rs) r e h (here q) = sym (h.0 e) ∙ q
 only_test t target (x ∷ rs) r e h (later q f) = only_test t target rs r e h.1 f
-only_test t target [] r e h x3 = elim x3 [ ]
+only_test t target [] r e h m = elim m [ ]
 
 elsewhere : {A : Type 0} (r : Refusal) → (r.place ≡ 10 → ⊥) → r ≡ Version at 10 → A
 elsewhere r n e = absurd (n (ap (λ (s : Refusal). s.place) e))

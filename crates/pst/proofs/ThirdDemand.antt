@@ -1,5 +1,5 @@
 -- Demand 3, and what listings tell. Assumes nothing.
-use Prim.Native.Nat.{ℕ, ◌≤◌}
+use Prim.Native.Nat.{ℕ}
 use mathlib.Core.Path.{◌≡◌, refl, sym, ap, ◌∙◌}
 use mathlib.Core.Bool.{false}
 use mathlib.Core.Option.{Option, none, some}
@@ -20,7 +20,7 @@ use Rattle.edition.specs.declared.Edition.{Edition}
 use Rattle.page.specs.Layout.{compared}
 use Rattle.edition.specs.Fair.{FairLayout}
 use Rattle.page.specs.Page.{number_in, key_in}
-use Rattle.header.specs.Header.{edition_of, nodes_of, blocks_of}
+use Rattle.header.specs.Header.{nodes_of, blocks_of}
 use Rattle.header.proofs.EditionLaws.{fair_nodes, fair_blocks}
 use Rattle.header.proofs.HeaderLaws.{edition_agrees}
 use Rattle.tree.specs.Tree.{tree_fits, scan}

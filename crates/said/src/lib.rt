@@ -2,7 +2,7 @@
 // listing goes on.
 #![tactic(auto)]
 
-ghost use Rattle.std.specs.Prelude.{IfOk};
+ghost use Rattle.std.specs.Prelude.{◌≡◌, length, IfOk};
 ghost use Rattle.std.specs.Counts.{IsPrefixLen};
 
 use refusal::Refusal;
@@ -50,7 +50,8 @@ fn read_whole(
     path: &[u8],
     buffer: &mut [u8],
 ) -> io::Result<Loaded>
-    ensures { IfOk result (λ loaded. IsPrefixLen loaded.size buffer.new) }
+    ensures loaded { IfOk result (λ loaded. IsPrefixLen loaded.size buffer.new) }
+    ensures kept { length buffer.new ≡ length buffer.old }
 {
     let length = length_of(file);
     if length > buffer.len() as u64 {
@@ -72,13 +73,14 @@ fn read_whole(
 }
 
 // Reads a file of the program's folder to the front of the buffer, and says why where it does not. An error is
-// one of printing.
+// one of printing; it leaves a buffer of the same length, whose bytes may be those read so far.
 pub fn load(
     rt: &(impl Files + Print + Eprint),
     path: &[u8],
     buffer: &mut [u8],
 ) -> io::Result<Loaded>
-    ensures { IfOk result (λ loaded. IsPrefixLen loaded.size buffer.new) }
+    ensures loaded { IfOk result (λ loaded. IsPrefixLen loaded.size buffer.new) }
+    ensures kept { length buffer.new ≡ length buffer.old }
 {
     let Ok(name) = str::from_utf8(path) else {
         eprintln!(rt; "{}: the name is no text", path.escape_ascii())?;

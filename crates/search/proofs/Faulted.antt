@@ -27,8 +27,8 @@ member_drop (suc n) x (y ∷ ys) m = Memᴰ.tail (member_drop n x ys m)
 member_take : {A : Type 0} (n : ℕ) (x : A) (xs : List A) → Memᴰ x (take n xs) → Memᴰ x xs
 member_take (suc n) x (y ∷ ys) (Memᴰ.head e) = Memᴰ.head e
 member_take (suc n) x (y ∷ ys) (Memᴰ.tail m) = Memᴰ.tail (member_take n x ys m)
-member_take zero x xs x3 = elim x3 [ ]
-member_take (suc n) x [] x5 = elim x5 [ ]
+member_take zero x xs h = elim h [ ]
+member_take (suc n) x [] h = elim h [ ]
 
 member_picked : {B : Type 0} (s : Sought) (seat : Seat) (c : B) (cs : List B) → Memᴰ c (from_seat s seat cs) → Memᴰ c cs
 unfolding from_seat

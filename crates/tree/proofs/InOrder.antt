@@ -17,7 +17,7 @@ use Rattle.edition.specs.declared.Layout.{Layout}
 use Rattle.page.specs.declared.Link.{Link}
 use Rattle.page.specs.Layout.{compared}
 use Rattle.tree.specs.Tree.{root, root_level, page_tree}
-use Rattle.tree.specs.Lookup.{asked_for, searched, lookup, path, search_rules, pages_read}
+use Rattle.tree.specs.Lookup.{asked_for, searched, path, search_rules, pages_read}
 use Rattle.tree.specs.Demand3.{PathCountedHolds, ReadInOrderHolds}
 
 same_count : (ps : List Link) (a : Answer (List ℕ)) → Counts (length ps) a → Counts (length (map (λ p. p.offset) ps)) a

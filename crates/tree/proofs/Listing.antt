@@ -22,7 +22,7 @@ use Rattle.header.specs.Header.{header_fits}
 use Rattle.edition.specs.declared.Layout.{Layout}
 use Rattle.page.specs.declared.Link.{Link}
 use Rattle.page.specs.Layout.{as_given}
-use Rattle.page.specs.Page.{entries, number_in, key_in}
+use Rattle.page.specs.Page.{number_in, key_in}
 use Rattle.page.proofs.PageLaws.{given_small, entries_short, number_least, number_above}
 use Rattle.tree.specs.Tree.{root, root_level, page_tree, tree_fits, scan}
 use Rattle.tree.specs.Lookup.{next, pages_read}

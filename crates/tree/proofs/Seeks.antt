@@ -2,7 +2,6 @@
 use Prim.Native.Nat.{ℕ, suc, ◌+◌, ◌-◌, ◌≤◌}
 use mathlib.Core.Path.{◌≡◌, refl, sym, ap, ◌∙◌}
 use mathlib.Core.List.{List, [], ◌∷◌, map}
-use mathlib.Core.Logic.{inl, inr}
 use native.Mathlib.Nat.{add-zero}
 use native.Mathlib.Omega.{arith}
 use Rattle.refusal.specs.declared.Verdict.{Verdict}
@@ -17,7 +16,7 @@ use Rattle.edition.specs.declared.Layout.{Layout}
 use Rattle.page.specs.declared.Link.{Link}
 use Rattle.page.specs.Page.{page, entries, key_in, page_fits}
 use Rattle.tree.specs.declared.Found.{Found}
-use Rattle.tree.specs.declared.Found.TheVariants.{Entry, Absent, Refused as Turned}
+use Rattle.tree.specs.declared.Found.TheVariants.{Absent}
 use Rattle.tree.specs.declared.Next.TheVariants.{NoMore}
 use Rattle.tree.specs.Tree.{page_tree}
 use Rattle.tree.specs.Answers.{shown, kids_from, next_of}

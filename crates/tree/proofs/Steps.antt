@@ -44,7 +44,7 @@ only : (cs : List Link) (c : Link) → Single cs → next_of cs ≡ Here c → c
 unfolding next_of
 only [] c nobody e = cc
 only (d ∷ []) c somebody e = let same : d ≡ c = cc in ap (λ (x : Link). x ∷ []) same
-only (d ∷ (_ ∷ _)) c x6 e = elim x6 [ ]
+only (d ∷ (_ ∷ _)) c h e = elim h [ ]
 
 pub next_chosen : (L : Layout) (image : List ℕ) (k : ℕ) (cs : List Link) (c : Link) → next_of (picked (page_tree L image) Equal k cs) ≡ Here c → picked (page_tree L image) Equal k cs ≡ c ∷ []
 next_chosen L image k cs c e = only (picked (page_tree L image) Equal k cs) c (single _ cs) e

@@ -1,4 +1,4 @@
-use Rattle.std.proofs.Common.{suc, ◌-◌, drop, sym, refl, ◌∙◌, arith, length-set, rules}
+use Rattle.std.proofs.Common.{suc, drop, sym, refl, ◌∙◌, arith, length-set, rules}
 use Rattle.laws.proofs.InPlace.{turn, ended}
 use Rattle.coding.specs.Table.{coding_table}
 use Rattle.coding.specs.Coding.{cyclic}

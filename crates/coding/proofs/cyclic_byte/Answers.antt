@@ -1,5 +1,4 @@
 use Rattle.std.proofs.Common.{refl}
-use Rattle.coding.specs.Table.{R, S, I}
 use Rattle.coding.proofs.CodingLaws.{cyclic_steps}
 use Rattle.coding.proofs.cyclic_byte.Goals as goal
 

@@ -1,4 +1,4 @@
-use Rattle.std.proofs.Common.{ℕ, suc, ◌-◌, ◌∷◌, map, drop, sym, refl, ap, ◌∙◌, arith, length-set, rules}
+use Rattle.std.proofs.Common.{ℕ, suc, ◌∷◌, map, drop, sym, refl, ap, ◌∙◌, arith, length-set, rules}
 use Rattle.laws.proofs.InPlace.{turn, ended}
 use Rattle.coding.specs.Table.{coding_table, entry}
 use borrow.Author.Rules.{rules}

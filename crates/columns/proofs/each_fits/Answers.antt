@@ -1,6 +1,5 @@
 use Rattle.columns.proofs.ColumnLaws.{each_on}
 use mathlib.Core.Path.{◌≡◌, refl, sym, ap, ap₂, ◌∙◌}
-use Prim.Native.Nat.{◌-◌}
 use mathlib.Core.Bool.{◌&&◌}
 use native.Mathlib.Omega.{arith}
 use Rattle.columns.specs.Record.{column_count}

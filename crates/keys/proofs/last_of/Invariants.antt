@@ -1,4 +1,4 @@
-use Prim.Native.Nat.{◌-◌, ◌≤◌}
+use Prim.Native.Nat.{◌≤◌}
 use mathlib.Core.Path.{◌≡◌}
 use Rattle.keys.specs.declared.Seat.TheVariants.{Nowhere}
 use Rattle.keys.specs.Search.{last_at_most}

@@ -1,6 +1,6 @@
 use Rattle.tree.proofs.Ways.{leads_nowhere}
 use Rattle.block.specs.Block.{checked_block}
-use Prim.Native.Nat.{ℕ, ◌+◌, ◌-◌}
+use Prim.Native.Nat.{ℕ, ◌+◌}
 use mathlib.Core.Path.{sym, ap, ◌∙◌}
 use mathlib.Core.List.{List}
 use native.Mathlib.Omega.{arith}

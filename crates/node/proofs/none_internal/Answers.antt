@@ -1,5 +1,4 @@
 use Rattle.block.specs.Block.{internal}
-use Prim.Native.Nat.{◌-◌}
 use mathlib.Core.Path.{sym, ap, ◌∙◌}
 use native.Mathlib.Omega.{arith}
 use Rattle.node.specs.Content.{none_internal}

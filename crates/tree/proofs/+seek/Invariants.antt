@@ -1,4 +1,3 @@
-use Prim.Native.Nat.{◌-◌}
 use Rattle.tree.proofs.+seek.Given as goal
 
 abbrev pub decreases-seek : goal.decreases-seek

@@ -1,4 +1,3 @@
-use Prim.Native.Nat.{◌-◌}
 use Rattle.tree.proofs.+way_from.Given as goal
 
 abbrev pub decreases-way_from : goal.decreases-way_from
