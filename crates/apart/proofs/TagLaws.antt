@@ -9,9 +9,6 @@ use lib.Dec.{leb, eqb}
 use lib.ListN.{length, get_or, set}
 use lib.Seq.{get_or-set_same, get_or-set_other}
 use borrow.Author.Tests.{leb-true, leb-false, eqb-true, eqb-false}
-use Rattle.keys.specs.declared.End.TheVariants.{Open}
-use Rattle.keys.specs.declared.Order.{Order}
-use Rattle.keys.specs.declared.Order.TheVariants.{Climbing, Unordered, Outside}
 use Rattle.keys.specs.Plain.{Ascending}
 use Rattle.keys.specs.Range.{ordered, climbing}
 use Rattle.keys.proofs.Climbs.{ordered_exactly}
@@ -20,6 +17,9 @@ use Rattle.columns.specs.Columns.{column_at, tags}
 use Rattle.columns.specs.Sound.{RecordSound}
 use Rattle.columns.proofs.SeatLaws.{tag_is, tags_length}
 use Rattle.apart.specs.Steps.{New, Kept, Differ}
+use Rattle.std.specs.Prelude.{None, Result, Ok, Err, ⊤}
+use Rattle.keys.specs.declared.Disorder.{Disorder}
+use Rattle.keys.specs.declared.Disorder.TheVariants.{Outside, Unordered}
 
 -- in an ascending list a number is below each that stands behind it
 below_each : (x : ℕ) (xs : List ℕ) → Ascending (x ∷ xs) → (j : ℕ) → j < length xs → x < get_or xs j 0
@@ -37,11 +37,11 @@ ascends (x ∷ xs) a i zero l h = absurd (not-suc-le-zero l)
 ascends (x ∷ xs) a zero (suc j) l h = below_each x xs a j (le_of_suc-le-suc h)
 ascends (x ∷ xs) a (suc i) (suc j) l h = ascends xs (rest x xs a) i j (le_of_suc-le-suc l) (le_of_suc-le-suc h)
 
-climbed : (o : Order) → climbing o ≡ true → o ≡ Climbing
+climbed : (o : Result ⊤ Disorder) → climbing o ≡ true → o ≡ Ok tt
 unfolding climbing
-climbed Climbing e = refl
-climbed (Unordered i) e = cc
-climbed (Outside i) e = cc
+climbed (Ok tt) e = refl
+climbed (Err (Unordered i)) e = cc
+climbed (Err (Outside i)) e = cc
 
 -- a tag that is none of the first n, nor the next
 pub new_on : (found : List ℕ) (n tag : ℕ) → New found n tag → (get_or found n 0 ≡ tag → ⊥) → New found (n + 1) tag
@@ -52,9 +52,9 @@ new_on found n tag before last i h same = by (leb n i) refl
     by false t = before i (leb-false n i t) same
 
 module _ (table : List ℕ) where
-  pub climb_differ : RecordSound table → (o : Order) → o ≡ ordered (record { from = 0; to = Open }) (tags table) → climbing o ≡ true → Differ table (column_count table)
+  pub climb_differ : RecordSound table → (o : Result ⊤ Disorder) → o ≡ ordered (record { from = 0; to = None }) (tags table) → climbing o ≡ true → Differ table (column_count table)
   climb_differ sound o told e i j l h same =
-      let up = ascends (tags table) ((ordered_exactly (record { from = 0; to = Open }) (tags table)).0 (sym told ∙ climbed o e)).0 i j l (rw (tags_length table sound) h) in
+      let up = ascends (tags table) ((ordered_exactly (record { from = 0; to = None }) (tags table)).0 (sym told ∙ climbed o e)).0 i j l (rw (tags_length table sound) h) in
       let first = tag_is table sound i (omega (arith, l, h)) in
       let second = tag_is table sound j h in
       omega (arith, up, first, second, same)

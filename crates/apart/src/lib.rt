@@ -94,7 +94,7 @@ fn tags_climb(table: &[u8]) -> bool
     };
     let range = Range {
         from: 0,
-        to: End::Open,
+        to: None,
     };
     keys::is_climbing(keys::check_keys(&table[22..end], shape, count, range))
 }

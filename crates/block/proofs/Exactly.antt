@@ -10,22 +10,20 @@ use borrow.Author.Tests.{leb-true, eqb-true, le-leb, eq-eqb}
 use Rattle.laws.proofs.Tests.{and_both, both_and}
 use Rattle.le.specs.Bytes.{field}
 use Rattle.refusal.specs.declared.Refusal.{Refusal}
-use Rattle.refusal.specs.declared.Verdict.{Verdict}
-use Rattle.refusal.specs.declared.Verdict.TheVariants.{Accepted, Refused}
-use Rattle.refusal.specs.Order.{after, AllHold, none, both, FirstFault}
+use Rattle.refusal.specs.Order.{Verdict, after, AllHold, none, both, FirstFault}
 use Rattle.refusal.proofs.OrderLaws.{goes, ends, accepted_exactly, refused_exactly}
 use Rattle.keys.specs.Records.{cleared}
 use Rattle.page.specs.Page.{signature}
 use Rattle.tree.specs.declared.Listed.{Listed}
-use Rattle.tree.specs.declared.FoundBlock.{FoundBlock}
-use Rattle.tree.specs.declared.FoundBlock.TheVariants as block
 use Rattle.tree.specs.Answers.{block_of}
 use Rattle.edition.specs.declared.Edition.{Edition}
-use Rattle.block.specs.declared.Checked.TheVariants as checked
 use Rattle.edition.specs.declared.Trailer.{Trailer}
 use Rattle.block.specs.Block.{trailer_of, place_fits, trailer_fits, sum_fits, trailer_rules, block_rules, block_fits, tested_by, checked_block}
 use Rattle.block.specs.Sound.{BlockSound, ListedSound}
 use Rattle.block.proofs.BlockLaws.{placed_of, unblock}
+use Rattle.std.specs.Prelude.{Result, Ok, Err}
+use Rattle.tree.specs.declared.Found.{Found}
+use Rattle.tree.specs.declared.Found.TheVariants.{Absent, Entry}
 
 sound_of : (t : Trailer) (image : List ℕ) (b : Listed) → AllHold (block_rules t image b) → BlockSound t image b
 unfolding block_rules trailer_rules trailer_fits sum_fits
@@ -57,7 +55,7 @@ of_sound t image b h =
     (both (eq-eqb _ _ h.summed) none))
 
 -- a listed block passes 13 to 15 exactly when each of these rules holds
-pub block_exactly : (t : Trailer) (image : List ℕ) (b : Listed) → (block_fits t image b ≡ Accepted) ↔ BlockSound t image b
+pub block_exactly : (t : Trailer) (image : List ℕ) (b : Listed) → (block_fits t image b ≡ Ok tt) ↔ BlockSound t image b
 unfolding block_fits
 block_exactly t image b = (
   (λ e. sound_of t image b ((accepted_exactly (block_rules t image b)).0 e)),
@@ -65,28 +63,28 @@ block_exactly t image b = (
 )
 
 -- a refusal names the first fault: its test fails, and each test before it holds
-pub block_first_fault : (t : Trailer) (image : List ℕ) (b : Listed) (r : Refusal) → (block_fits t image b ≡ Refused r) ↔ FirstFault (block_rules t image b) r
+pub block_first_fault : (t : Trailer) (image : List ℕ) (b : Listed) (r : Refusal) → (block_fits t image b ≡ Err r) ↔ FirstFault (block_rules t image b) r
 unfolding block_fits
 block_first_fault t image b r = refused_exactly (block_rules t image b) r
 
 -- what was found passes its tests as the block b
-found_by : (E : Edition) (image : List ℕ) (f : FoundBlock) (b : Listed) (P : Type 0) → tested_by (block_fits E.trailer image) f ≡ checked.Block b
-    → ((n : ℕ) → f ≡ block.Found b n → BlockSound E.trailer image b → P) → P
+found_by : (E : Edition) (image : List ℕ) (f : Result (Found Listed) Refusal) (b : Listed) (P : Type 0) → tested_by (block_fits E.trailer image) f ≡ Ok b
+    → ((n : ℕ) → f ≡ Ok (Entry b n) → BlockSound E.trailer image b → P) → P
 unfolding tested_by
-found_by E image (block.Found d n) b P e go = by (block_fits E.trailer image d) refl e
+found_by E image (Ok (Entry d n)) b P e go = by (block_fits E.trailer image d) refl e
   where
-    by : (v : Verdict) → block_fits E.trailer image d ≡ v → after checked.Refused v (checked.Block d) ≡ checked.Block b → P
-    by Accepted q z =
-        let same : d ≡ b = unblock d b (sym (goes checked.Refused Accepted (checked.Block d) refl) ∙ z) in
-        go n (ap (λ (x : Listed). block.Found x n) same) (subst (BlockSound E.trailer image) same ((block_exactly E.trailer image d).0 q))
-    by (Refused r) q z = let other = ends checked.Refused (Refused r) (checked.Block d) r refl in let clash : ◌≡◌ {A = ℕ} 0 1 = cc in absurd (omega arith)
-found_by E image (block.Absent n) b P e go = let clash : ◌≡◌ {A = ℕ} 0 1 = cc in absurd (omega arith)
-found_by E image (block.Refused r) b P e go = let clash : ◌≡◌ {A = ℕ} 0 1 = cc in absurd (omega arith)
+    by : (v : Verdict) → block_fits E.trailer image d ≡ v → after Err v (Ok d) ≡ Ok b → P
+    by (Ok tt) q z =
+        let same : d ≡ b = unblock d b (sym (goes Err (Ok tt) (Ok d) refl) ∙ z) in
+        go n (ap (λ (x : Listed). Ok (Entry x n)) same) (subst (BlockSound E.trailer image) same ((block_exactly E.trailer image d).0 q))
+    by (Err r) q z = let other = ends Err (Err r) (Ok d) r refl in let clash : ◌≡◌ {A = ℕ} 0 1 = cc in absurd (omega arith)
+found_by E image (Ok (Absent n)) b P e go = let clash : ◌≡◌ {A = ℕ} 0 1 = cc in absurd (omega arith)
+found_by E image (Err r) b P e go = let clash : ◌≡◌ {A = ℕ} 0 1 = cc in absurd (omega arith)
 
 -- a number passes 12 to 15 exactly when the block tree lists it as a block whose rules hold
-pub checked_exactly : (E : Edition) (image : List ℕ) (number : ℕ) (b : Listed) → (checked_block E image number ≡ checked.Block b) ↔ ListedSound E image number b
+pub checked_exactly : (E : Edition) (image : List ℕ) (number : ℕ) (b : Listed) → (checked_block E image number ≡ Ok b) ↔ ListedSound E image number b
 unfolding checked_block tested_by
 checked_exactly E image number b = (
   (λ e. found_by E image (block_of E.blocks image number) b (ListedSound E image number b) e (λ n f s. record { pages = n; found = f; sound = s })),
-  (λ h. ap (tested_by (block_fits E.trailer image)) h.found ∙ goes checked.Refused _ _ ((block_exactly E.trailer image b).1 h.sound)),
+  (λ h. ap (tested_by (block_fits E.trailer image)) h.found ∙ goes Err _ _ ((block_exactly E.trailer image b).1 h.sound)),
 )

@@ -3,27 +3,28 @@ use Prim.Native.Nat.{ℕ}
 use mathlib.Core.Path.{refl}
 use mathlib.Core.List.{List}
 use Rattle.keys.specs.declared.Sought.TheVariants.{Equal}
-use Rattle.tree.specs.declared.FoundBlock.{FoundBlock}
-use Rattle.tree.specs.declared.FoundBlock.TheVariants as block
 use Rattle.tree.specs.Answers.{block_of}
 use Rattle.tree.specs.KeyFaults.{KeyFault}
 use Rattle.tree.proofs.KeyFaults.{Quiet, KeysTell, quiet_tell, append_tell, search_tells}
 use Rattle.edition.specs.declared.Edition.{Edition}
-use Rattle.block.specs.declared.Checked.{Checked}
-use Rattle.block.specs.declared.Checked.TheVariants as checked
 use Rattle.block.specs.Block.{trailer_rules, block_rules, checked_block}
 use Rattle.block.specs.Tried.{listed_rules, test_rules, space_rules, read_rules}
+use Rattle.std.specs.Prelude.{Result, Ok, Err}
+use Rattle.refusal.specs.declared.Refusal.{Refusal}
+use Rattle.tree.specs.declared.Found.{Found}
+use Rattle.tree.specs.declared.Listed.{Listed}
+use Rattle.tree.specs.declared.Found.TheVariants.{Absent, Entry}
 
-listed_quiet : (E : Edition) (image : List ℕ) (found : FoundBlock) → Quiet (listed_rules E image found)
+listed_quiet : (E : Edition) (image : List ℕ) (found : Result (Found Listed) Refusal) → Quiet (listed_rules E image found)
 unfolding listed_rules block_rules trailer_rules
-listed_quiet E image (block.Found b n) = (refl, (refl, (refl, tt)))
-listed_quiet E image (block.Absent n) = (refl, tt)
-listed_quiet E image (block.Refused r) = tt
+listed_quiet E image (Ok (Entry b n)) = (refl, (refl, (refl, tt)))
+listed_quiet E image (Ok (Absent n)) = (refl, tt)
+listed_quiet E image (Err r) = tt
 
-space_quiet : (found : Checked) (space : ℕ) → Quiet (space_rules found space)
+space_quiet : (found : Result Listed Refusal) (space : ℕ) → Quiet (space_rules found space)
 unfolding space_rules
-space_quiet (checked.Block b) space = (refl, tt)
-space_quiet (checked.Refused r) space = tt
+space_quiet (Ok b) space = (refl, tt)
+space_quiet (Err r) space = tt
 
 pub test_tells : (E : Edition) (image : List ℕ) (number : ℕ) → KeysTell (KeyFault E.blocks image) (test_rules E image number)
 unfolding test_rules

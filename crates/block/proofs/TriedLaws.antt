@@ -4,10 +4,8 @@ use mathlib.Core.Path.{◌≡◌, refl, sym, ap, ◌∙◌}
 use mathlib.Core.Bool.{Bool, true, false, cond}
 use mathlib.Core.List.{List}
 use lib.Dec.{leb}
-use Rattle.refusal.specs.declared.Verdict.{Verdict}
-use Rattle.refusal.specs.declared.Verdict.TheVariants.{Accepted, Refused}
 use Rattle.refusal.specs.declared.Fault.TheVariants.{ShortBuffer}
-use Rattle.refusal.specs.Order.{◌needing◌, in_order, demand, after, ◌then◌}
+use Rattle.refusal.specs.Order.{Verdict, ◌needing◌, in_order, demand, after, ◌then◌}
 use Rattle.refusal.proofs.OrderLaws.{in_order_append}
 use Rattle.keys.specs.declared.Sought.TheVariants.{Equal}
 use Rattle.search.specs.Answer.{Answer, found, absent, refused}
@@ -16,36 +14,35 @@ use Rattle.tree.specs.Lookup.{lookup, search_rules}
 use Rattle.tree.specs.Answers.{shown, as_block, block_of}
 use Rattle.tree.proofs.InOrder.{search_tried}
 use Rattle.edition.specs.declared.Edition.{Edition}
-use Rattle.block.specs.declared.Checked.{Checked}
-use Rattle.block.specs.declared.Checked.TheVariants as checked
-use Rattle.block.specs.declared.Sized.{Sized}
-use Rattle.block.specs.declared.Sized.TheVariants as sized
 use Rattle.block.specs.Block.{block_fits, tested_by, checked_block, size_in, test_of, fitting, read_in, read_of}
 use Rattle.block.specs.Tried.{listed_rules, test_rules, space_rules, read_rules}
+use Rattle.std.specs.Prelude.{Result, Ok, Err}
+use Rattle.refusal.specs.declared.Refusal.{Refusal}
+use Rattle.tree.specs.declared.Listed.{Listed}
 
 -- the refusal of an answer, if it is one
-unfoldable pub verdict_in : Checked → Verdict
-verdict_in (checked.Block b) = Accepted
-verdict_in (checked.Refused r) = Refused r
+unfoldable pub verdict_in : Result Listed Refusal → Verdict
+verdict_in (Ok b) = Ok tt
+verdict_in (Err r) = Err r
 
-unfoldable pub sized_verdict : Sized → Verdict
-sized_verdict (sized.Size n) = Accepted
-sized_verdict (sized.Refused r) = Refused r
+unfoldable pub sized_verdict : Result ℕ Refusal → Verdict
+sized_verdict (Ok n) = Ok tt
+sized_verdict (Err r) = Err r
 
-after_verdict : (v : Verdict) (c : Checked) → verdict_in c ≡ Accepted → v ≡ verdict_in (after checked.Refused v c)
+after_verdict : (v : Verdict) (c : Result Listed Refusal) → verdict_in c ≡ Ok tt → v ≡ verdict_in (after Err v c)
 unfolding after verdict_in
-after_verdict Accepted c h = sym h
-after_verdict (Refused r) c h = refl
+after_verdict (Ok tt) c h = sym h
+after_verdict (Err r) c h = refl
 
-size_same : (c : Checked) → verdict_in c ≡ sized_verdict (size_in c)
+size_same : (c : Result Listed Refusal) → verdict_in c ≡ sized_verdict (size_in c)
 unfolding verdict_in sized_verdict size_in
-size_same (checked.Block b) = refl
-size_same (checked.Refused r) = refl
+size_same (Ok b) = refl
+size_same (Err r) = refl
 
 module _ (E : Edition) (image : List ℕ) where
   found_tried : (a : Answer (List ℕ)) → (verdict_of a then in_order (listed_rules E image (as_block (shown E.blocks a)))) ≡ verdict_in (tested_by (block_fits E.trailer image) (as_block (shown E.blocks a)))
   unfolding verdict_of verdict_in shown as_block tested_by listed_rules block_fits after in_order demand
-  found_tried (found e n) = after_verdict (block_fits E.trailer image _) (checked.Block _) refl
+  found_tried (found e n) = after_verdict (block_fits E.trailer image _) (Ok _) refl
   found_tried (absent n) = refl
   found_tried (refused r) = refl
 
@@ -60,14 +57,14 @@ module _ (E : Edition) (image : List ℕ) where
   unfolding test_of
   size_tried number = test_tried number ∙ size_same (checked_block E image number)
 
-  space_tried : (c : Checked) (space : ℕ) → (verdict_in c then in_order (space_rules c space)) ≡ sized_verdict (read_in c space)
+  space_tried : (c : Result Listed Refusal) (space : ℕ) → (verdict_in c then in_order (space_rules c space)) ≡ sized_verdict (read_in c space)
   unfolding verdict_in space_rules read_in fitting sized_verdict after in_order demand
-  space_tried (checked.Block b) space = by (leb b.size space)
+  space_tried (Ok b) space = by (leb b.size space)
     where
-      by : (w : Bool) → (demand w (ShortBuffer needing b.size) then Accepted) ≡ sized_verdict (cond w (sized.Size b.size) (sized.Refused (ShortBuffer needing b.size)))
+      by : (w : Bool) → (demand w (ShortBuffer needing b.size) then Ok tt) ≡ sized_verdict (cond w (Ok b.size) (Err (ShortBuffer needing b.size)))
       by true = refl
       by false = refl
-  space_tried (checked.Refused r) space = refl
+  space_tried (Err r) space = refl
 
   pub read_tried : (number space : ℕ) → in_order (read_rules E image number space) ≡ sized_verdict (read_of E image number space)
   unfolding read_rules read_of

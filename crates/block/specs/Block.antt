@@ -1,26 +1,22 @@
 -- Document 01, "Blocks and their encoding" (003, 2.2.2.8): a block's room, its tests 12 to 15, its bytes. Assumes nothing: these are definitions.
-use Rattle.std.specs.Prelude.{ℕ, ◌+◌, ◌-◌, ◌*◌, ◌/◌, ◌%◌, Bool, ◌&&◌, cond, List, [], ◌∷◌, leb, eqb, length}
+use Rattle.std.specs.Prelude.{ℕ, ◌+◌, ◌-◌, ◌*◌, ◌/◌, ◌%◌, Bool, ◌&&◌, cond, List, [], ◌∷◌, leb, eqb, length, Result, Ok, Err}
 use Rattle.laws.specs.Front.{fronted}
 use Rattle.le.specs.Bytes.{part, field}
 use Rattle.crc.specs.Checksum.{checksum}
 use Rattle.coding.specs.Coding.{decoded}
-use Rattle.refusal.specs.declared.Verdict.{Verdict}
 use Rattle.refusal.specs.declared.Fault.TheVariants.{BlockUnlisted, BlockOffset, BlockTrailer, BlockChecksum, ShortBuffer}
-use Rattle.refusal.specs.Order.{◌at◌, ◌needing◌, Rule, rule, in_order, after}
+use Rattle.refusal.specs.Order.{Verdict, ◌at◌, ◌needing◌, Rule, rule, in_order, after}
 use Rattle.keys.specs.Records.{cleared}
 use Rattle.header.specs.Header.{file_end, method_of}
 use Rattle.page.specs.Page.{signature}
 use Rattle.tree.specs.declared.Listed.{Listed}
-use Rattle.tree.specs.declared.FoundBlock.{FoundBlock}
-use Rattle.tree.specs.declared.FoundBlock.TheVariants as block
 use Rattle.tree.specs.Answers.{block_of}
 use Rattle.edition.specs.declared.Trailer.{Trailer}
 use Rattle.edition.specs.declared.Edition.{Edition}
 use Rattle.edition.specs.Editions.{trailer64, trailer32}
-use Rattle.block.specs.declared.Checked.{Checked}
-use Rattle.block.specs.declared.Checked.TheVariants as checked
-use Rattle.block.specs.declared.Sized.{Sized}
-use Rattle.block.specs.declared.Sized.TheVariants as sized
+use Rattle.refusal.specs.declared.Refusal.{Refusal}
+use Rattle.tree.specs.declared.Found.{Found}
+use Rattle.tree.specs.declared.Found.TheVariants.{Absent, Entry}
 
 -- "the smallest multiple of 64 that holds size + 16"; 02, 7/13: "trailers of 12 bytes"
 unfoldable pub room_for : Trailer → ℕ → ℕ
@@ -69,20 +65,20 @@ module _ (t : Trailer) (image : List ℕ) (b : Listed) where
   block_fits = in_order block_rules
 
 -- a block that is looked up and tested: "12; then 13 ...; 14 ...; 15 ...". "A refusal out of an inner lookup is handed on unchanged"
-unfoldable pub tested_by : (Listed → Verdict) → FoundBlock → Checked
-tested_by fits (block.Found b n) = after checked.Refused (fits b) (checked.Block b)
-tested_by fits (block.Absent n) = checked.Refused (BlockUnlisted at 0)
-tested_by fits (block.Refused r) = checked.Refused r
+unfoldable pub tested_by : (Listed → Verdict) → Result (Found Listed) Refusal → Result Listed Refusal
+tested_by fits (Ok (Entry b n)) = after Err (fits b) (Ok b)
+tested_by fits (Ok (Absent n)) = Err (BlockUnlisted at 0)
+tested_by fits (Err r) = Err r
 
-unfoldable pub checked_block : Edition → List ℕ → ℕ → Checked
+unfoldable pub checked_block : Edition → List ℕ → ℕ → Result Listed Refusal
 checked_block E image number = tested_by (block_fits E.trailer image) (block_of E.blocks image number)
 
 -- the outcome of the block test: its size, or the refusal
-unfoldable pub size_in : Checked → Sized
-size_in (checked.Block b) = sized.Size b.size
-size_in (checked.Refused r) = sized.Refused r
+unfoldable pub size_in : Result Listed Refusal → Result ℕ Refusal
+size_in (Ok b) = Ok b.size
+size_in (Err r) = Err r
 
-unfoldable pub test_of : Edition → List ℕ → ℕ → Sized
+unfoldable pub test_of : Edition → List ℕ → ℕ → Result ℕ Refusal
 test_of E image number = size_in (checked_block E image number)
 
 -- "Bit 1 (value 2) of a block number marks an internal block. Internal blocks are never encoded; all others are, by the header's method."
@@ -97,21 +93,21 @@ unfoldable pub block_bytes : List ℕ → Listed → List ℕ
 block_bytes image b = plain (method_of image) b.block (part image b.offset b.size)
 
 -- 17: "output buffer shorter than the data", with the length needed
-unfoldable pub fitting : ℕ → ℕ → Sized
-fitting size space = cond (leb size space) (sized.Size size) (sized.Refused (ShortBuffer needing size))
+unfoldable pub fitting : ℕ → ℕ → Result ℕ Refusal
+fitting size space = cond (leb size space) (Ok size) (Err (ShortBuffer needing size))
 
 -- the outcome of a block read: the tests, then 17
-unfoldable pub read_in : Checked → ℕ → Sized
-read_in (checked.Block b) space = fitting b.size space
-read_in (checked.Refused r) space = sized.Refused r
+unfoldable pub read_in : Result Listed Refusal → ℕ → Result ℕ Refusal
+read_in (Ok b) space = fitting b.size space
+read_in (Err r) space = Err r
 
-unfoldable pub read_of : Edition → List ℕ → ℕ → ℕ → Sized
+unfoldable pub read_of : Edition → List ℕ → ℕ → ℕ → Result ℕ Refusal
 read_of E image number space = read_in (checked_block E image number) space
 
 -- and the buffer at exit: the block's bytes at its front, or as it was
-unfoldable pub filled_in : List ℕ → Checked → List ℕ → List ℕ
-filled_in image (checked.Block b) out = cond (leb b.size (length out)) (fronted (block_bytes image b) out) out
-filled_in image (checked.Refused r) out = out
+unfoldable pub filled_in : List ℕ → Result Listed Refusal → List ℕ → List ℕ
+filled_in image (Ok b) out = cond (leb b.size (length out)) (fronted (block_bytes image b) out) out
+filled_in image (Err r) out = out
 
 unfoldable pub filled_of : Edition → List ℕ → ℕ → List ℕ → List ℕ
 filled_of E image number out = filled_in image (checked_block E image number) out

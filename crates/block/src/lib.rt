@@ -15,20 +15,6 @@ use edition::{Edition, Trailer};
 use refusal::{Fault, Refusal, Verdict};
 use tree::{FoundBlock, Listed, Way};
 
-// A block as it is listed, after its tests; or the refusal.
-#[derive(Clone, Copy)]
-pub enum Checked {
-    Block(Listed),
-    Refused(Refusal),
-}
-
-// The size of a block; or the refusal.
-#[derive(Clone, Copy)]
-pub enum Sized {
-    Size(u64),
-    Refused(Refusal),
-}
-
 fn room_for(t: Trailer, size: u64) -> u64
     requires { (size ≤ 4294967295) × (t.length ≤ 64) }
     ensures { result ≡ room_for t size }
@@ -98,7 +84,7 @@ fn test_bytes(t: Trailer, b: Listed, trailer: &[u8], body: &[u8]) -> Verdict
     if !sum_fits(t, trailer, body) {
         return refusal::refused_at(Fault::BlockChecksum, offset);
     }
-    Verdict::Accepted
+    Ok(())
 }
 
 // Tests 13 to 15 of a listed block.
@@ -118,29 +104,29 @@ fn test_listed(image: &[u8], t: Trailer, b: Listed) -> Verdict
 }
 
 // What a lookup found, tested: 12 to 15 after what the lookup refuses.
-fn test_found(image: &[u8], t: Trailer, found: FoundBlock) -> Checked
+fn test_found(image: &[u8], t: Trailer, found: Result<Found<Listed>, Refusal>) -> Result<Listed, Refusal>
     requires { FairTrailer t }
     ensures { result ≡ tested_by (block_fits t image.now) found }
 {
     match found {
-        FoundBlock::Found(b, _) => {
+        Ok(Found::Entry(b, _)) => {
             let verdict = test_listed(image, t, b);
             match verdict {
-                Verdict::Accepted => Checked::Block(b),
-                Verdict::Refused(refusal) => Checked::Refused(refusal),
+                Ok(()) => Ok(b),
+                Err(refusal) => Err(refusal),
             }
         }
-        FoundBlock::Absent(_) => Checked::Refused(Refusal {
+        Ok(Found::Absent(_)) => Err(Refusal {
             fault: Fault::BlockUnlisted,
             place: 0,
             more: 0,
         }),
-        FoundBlock::Refused(refusal) => Checked::Refused(refusal),
+        Err(refusal) => Err(refusal),
     }
 }
 
 // A block that is looked up and tested.
-pub fn check_block(image: &[u8], e: Edition, block: u64) -> Checked
+pub fn check_block(image: &[u8], e: Edition, block: u64) -> Result<Listed, Refusal>
     requires { FairEdition e }
     ensures { result ≡ checked_block e image.now block }
 {
@@ -148,8 +134,8 @@ pub fn check_block(image: &[u8], e: Edition, block: u64) -> Checked
 }
 
 // The same in an image whose header is accepted.
-pub fn check_block_in(image: &[u8], e: Edition, block: u64) -> Checked
-    requires { FairEdition e × (header_fits image.now ≡ Verdict.Accepted) }
+pub fn check_block_in(image: &[u8], e: Edition, block: u64) -> Result<Listed, Refusal>
+    requires { FairEdition e × (header_fits image.now ≡ Ok tt) }
     ensures { result ≡ checked_block e image.now block }
 {
     test_found(
@@ -160,7 +146,7 @@ pub fn check_block_in(image: &[u8], e: Edition, block: u64) -> Checked
 }
 
 // The same at the end of the block's way.
-pub fn check_block_at(image: &[u8], e: Edition, way: Way, block: u64) -> Checked
+pub fn check_block_at(image: &[u8], e: Edition, way: Way, block: u64) -> Result<Listed, Refusal>
     requires { FairEdition e × FromRoot e.blocks image.now way × (at_end e.blocks image.now way (compared e.blocks block) ≡ lookup e.blocks image.now block) }
     ensures { result ≡ checked_block e image.now block }
 {
@@ -171,7 +157,7 @@ pub fn check_block_at(image: &[u8], e: Edition, way: Way, block: u64) -> Checked
     )
 }
 
-pub fn test_block(image: &[u8], e: Edition, block: u64) -> Sized
+pub fn test_block(image: &[u8], e: Edition, block: u64) -> Result<u64, Refusal>
     requires { FairEdition e }
     ensures { result ≡ test_of e image.now block }
 {
@@ -228,33 +214,33 @@ pub fn block_into(image: &[u8], b: Listed, out: &mut [u8])
 }
 
 // A refusal, as the answer of a read; the size of what is no refusal.
-fn size_in(checked: Checked) -> Sized
+fn size_in(checked: Result<Listed, Refusal>) -> Result<u64, Refusal>
     ensures { result ≡ size_in checked }
 {
     match checked {
-        Checked::Block(b) => Sized::Size(b.size),
-        Checked::Refused(refusal) => Sized::Refused(refusal),
+        Ok(b) => Ok(b.size),
+        Err(refusal) => Err(refusal),
     }
 }
 
 // The tests, then 17, then the bytes.
-pub fn read_block(image: &[u8], e: Edition, block: u64, out: &mut [u8]) -> Sized
+pub fn read_block(image: &[u8], e: Edition, block: u64, out: &mut [u8]) -> Result<u64, Refusal>
     requires { FairEdition e }
     ensures answer { result ≡ read_of e image.now block (length out.old) }
     ensures buffer { out.new ≡ filled_of e image.now block out.old }
 {
     let checked = check_block(image, e, block);
-    let Checked::Block(b) = checked else {
+    let Ok(b) = checked else {
         return size_in(checked);
     };
     let size = b.size;
     if (out.len() as u64) < size {
-        return Sized::Refused(Refusal {
+        return Err(Refusal {
             fault: Fault::ShortBuffer,
             place: 0,
             more: size,
         });
     }
     block_into(image, b, out);
-    Sized::Size(size)
+    Ok(size)
 }

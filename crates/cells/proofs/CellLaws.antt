@@ -5,41 +5,41 @@ use mathlib.Core.Bool.{true, false}
 use mathlib.Core.List.{List}
 use borrow.Author.Tests.{le-leb, lt-leb}
 use Rattle.refusal.proofs.OrderLaws.{test_goes, test_ends}
-use Rattle.keys.specs.declared.Seat.TheVariants.{At, Nowhere}
 use Rattle.heap.specs.Items.{item_fits, bad_item}
 use Rattle.columns.specs.declared.Column.{Column}
 use Rattle.columns.specs.Columns.{column_at, refers, seat_of}
 use Rattle.table.specs.declared.Named.{Named}
 use Rattle.table.specs.declared.Named.TheVariants as named
 use Rattle.table.specs.Says.{named_by}
-use Rattle.cells.specs.declared.Cell.TheVariants.{Number, Empty, Item, Subnode, Missing, Absent, Refused}
 use Rattle.cells.specs.Rows.{row_count, row_at}
 use Rattle.cells.specs.Cells.{exists, named_cell, stored, cell_at, cell_by, cell_in}
+use Rattle.std.specs.Prelude.{Some, None, Ok, Err}
+use Rattle.cells.specs.declared.Cell.TheVariants.{Empty, Item, Missing, Number, Subnode}
 
 -- what a reference names is known
 module _ (block : List ℕ) (n : Named) where
-  pub cell_empty : n ≡ named.Nothing → named_cell block n ≡ Empty
+  pub cell_empty : n ≡ named.Nothing → named_cell block n ≡ Ok (Some Empty)
   unfolding named_cell
   cell_empty e = ap (named_cell block) e
 
-  pub cell_subnode : (subnode : ℕ) → n ≡ named.Subnode subnode → named_cell block n ≡ Subnode subnode
+  pub cell_subnode : (subnode : ℕ) → n ≡ named.Subnode subnode → named_cell block n ≡ Ok (Some (Subnode subnode))
   unfolding named_cell
   cell_subnode subnode e = ap (named_cell block) e
 
-  pub cell_item : (item : ℕ) → n ≡ named.Item item → item_fits block item ≡ true → named_cell block n ≡ Item item
+  pub cell_item : (item : ℕ) → n ≡ named.Item item → item_fits block item ≡ true → named_cell block n ≡ Ok (Some (Item item))
   unfolding named_cell
-  cell_item item e h = ap (named_cell block) e ∙ test_goes Refused _ _ _ h
+  cell_item item e h = ap (named_cell block) e ∙ test_goes Err _ _ _ h
 
-  pub cell_wrong : (item : ℕ) → n ≡ named.Item item → item_fits block item ≡ false → named_cell block n ≡ Refused bad_item
+  pub cell_wrong : (item : ℕ) → n ≡ named.Item item → item_fits block item ≡ false → named_cell block n ≡ Err bad_item
   unfolding named_cell
-  cell_wrong item e h = ap (named_cell block) e ∙ test_ends Refused _ _ (Item item) h
+  cell_wrong item e h = ap (named_cell block) e ∙ test_ends Err _ _ (Ok (Some (Item item))) h
 
 module _ (block table row : List ℕ) (column : Column) where
-  pub cell_missing : exists table row column ≡ false → cell_at block table row column ≡ Missing
+  pub cell_missing : exists table row column ≡ false → cell_at block table row column ≡ Ok (Some Missing)
   unfolding cell_at
   cell_missing e = rw e
 
-  pub cell_number : exists table row column ≡ true → refers column ≡ false → cell_at block table row column ≡ Number (stored row column)
+  pub cell_number : exists table row column ≡ true → refers column ≡ false → cell_at block table row column ≡ Ok (Some (Number (stored row column)))
   unfolding cell_at
   cell_number e r = rw (e, r)
 
@@ -48,7 +48,7 @@ module _ (block table row : List ℕ) (column : Column) where
   cell_named e r = rw (e, r)
 
 module _ (block table bytes : List ℕ) (row tag : ℕ) where
-  pub past_the_end : row_count table bytes < row + 1 → cell_in block table bytes row tag ≡ Absent
+  pub past_the_end : row_count table bytes < row + 1 → cell_in block table bytes row tag ≡ Ok None
   unfolding cell_in
   past_the_end h = rw (lt-leb (row + 1) (row_count table bytes) h)
 
@@ -56,10 +56,10 @@ module _ (block table bytes : List ℕ) (row tag : ℕ) where
   unfolding cell_in
   in_row h = rw (le-leb (row + 1) (row_count table bytes) h)
 
-  pub unknown_tag : row + 1 ≤ row_count table bytes → Nowhere ≡ seat_of table tag → cell_in block table bytes row tag ≡ Absent
+  pub unknown_tag : row + 1 ≤ row_count table bytes → None ≡ seat_of table tag → cell_in block table bytes row tag ≡ Ok None
   unfolding cell_by
   unknown_tag h e = in_row h ∙ ap (cell_by block table (row_at table bytes row)) (sym e)
 
-  pub known_tag : (i : ℕ) → row + 1 ≤ row_count table bytes → At i ≡ seat_of table tag → cell_in block table bytes row tag ≡ cell_at block table (row_at table bytes row) (column_at table i)
+  pub known_tag : (i : ℕ) → row + 1 ≤ row_count table bytes → Some i ≡ seat_of table tag → cell_in block table bytes row tag ≡ cell_at block table (row_at table bytes row) (column_at table i)
   unfolding cell_by
   known_tag i h e = in_row h ∙ ap (cell_by block table (row_at table bytes row)) (sym e)

@@ -7,9 +7,7 @@ use mathlib.Core.Logic.{◌↔◌}
 use lib.ListN.{length}
 use borrow.Author.Tests.{leb-true, le-leb, lt-leb}
 use Rattle.refusal.specs.declared.Refusal.{Refusal}
-use Rattle.refusal.specs.declared.Verdict.{Verdict}
-use Rattle.refusal.specs.declared.Verdict.TheVariants.{Accepted, Refused}
-use Rattle.refusal.specs.Order.{◌then◌, rule, in_order, after, FirstFault}
+use Rattle.refusal.specs.Order.{Verdict, ◌then◌, rule, in_order, after, FirstFault}
 use Rattle.refusal.proofs.OrderLaws.{goes, ends, demanded, test_goes, test_ends, then_left, then_right, refused_exactly, in_order_append}
 use Rattle.heap.specs.Items.{item_fits, Numbered, bad_item, item_part}
 use Rattle.heap.proofs.ItemLaws.{number_exactly}
@@ -17,32 +15,31 @@ use Rattle.table.specs.declared.Named.{Named}
 use Rattle.table.specs.declared.Named.TheVariants.{Nothing, Item, Subnode}
 use Rattle.table.specs.Context.{bad_table, table_record, table_rules, table_test, TableSound}
 use Rattle.table.proofs.ContextLaws.{table_exactly}
-use Rattle.cells.specs.declared.Counted.TheVariants as counted
-use Rattle.cells.specs.declared.Cell.TheVariants as cell
 use Rattle.cells.specs.Rows.{held_rules, Held, held_bytes, rows_named, row_bytes, rows_rules, rows_test, row_count, count_of}
 use Rattle.cells.specs.Cells.{cell_in, cell_of}
+use Rattle.std.specs.Prelude.{Ok, Err}
 
 -- a single rule
-one_holds : (t : Bool) (r : Refusal) → t ≡ true → in_order (rule t r ∷ []) ≡ Accepted
+one_holds : (t : Bool) (r : Refusal) → t ≡ true → in_order (rule t r ∷ []) ≡ Ok tt
 unfolding in_order
-one_holds t r e = test_goes Refused t r Accepted e
+one_holds t r e = test_goes Err t r (Ok tt) e
 
-one_breaks : (t : Bool) (r : Refusal) → t ≡ false → in_order (rule t r ∷ []) ≡ Refused r
+one_breaks : (t : Bool) (r : Refusal) → t ≡ false → in_order (rule t r ∷ []) ≡ Err r
 unfolding in_order
-one_breaks t r e = test_ends Refused t r Accepted e
+one_breaks t r e = test_ends Err t r (Ok tt) e
 
-one_held : (t : Bool) (r : Refusal) → in_order (rule t r ∷ []) ≡ Accepted → t ≡ true
+one_held : (t : Bool) (r : Refusal) → in_order (rule t r ∷ []) ≡ Ok tt → t ≡ true
 unfolding in_order
 one_held t r e = demanded t r (then_left _ _ e)
 
 module _ (block rows : List ℕ) where
-  held : (named : Named) → in_order (held_rules block rows named) ≡ Accepted → Held block rows named
+  held : (named : Named) → in_order (held_rules block rows named) ≡ Ok tt → Held block rows named
   unfolding held_rules Held
   held Nothing e = tt
   held (Item item) e = (number_exactly block item).0 (one_held _ _ e)
   held (Subnode subnode) e = leb-true _ _ (one_held _ _ e)
 
-  holds : (named : Named) → Held block rows named → in_order (held_rules block rows named) ≡ Accepted
+  holds : (named : Named) → Held block rows named → in_order (held_rules block rows named) ≡ Ok tt
   unfolding held_rules Held in_order
   holds Nothing h = refl
   holds (Item item) h = one_holds _ _ ((number_exactly block item).1 h)
@@ -50,16 +47,16 @@ module _ (block rows : List ℕ) where
 
   -- what was named is known
   module _ (named : Named) where
-    pub none_held : named ≡ Nothing → in_order (held_rules block rows named) ≡ Accepted
+    pub none_held : named ≡ Nothing → in_order (held_rules block rows named) ≡ Ok tt
     unfolding Held
     none_held e = ap (λ (n : Named). in_order (held_rules block rows n)) e ∙ holds Nothing tt
 
     module _ (item : ℕ) (e : named ≡ Item item) where
-      pub item_held : item_fits block item ≡ true → in_order (held_rules block rows named) ≡ Accepted
+      pub item_held : item_fits block item ≡ true → in_order (held_rules block rows named) ≡ Ok tt
       unfolding held_rules
       item_held h = ap (λ (n : Named). in_order (held_rules block rows n)) e ∙ one_holds _ _ h
 
-      pub item_wrong : item_fits block item ≡ false → in_order (held_rules block rows named) ≡ Refused bad_item
+      pub item_wrong : item_fits block item ≡ false → in_order (held_rules block rows named) ≡ Err bad_item
       unfolding held_rules
       item_wrong h = ap (λ (n : Named). in_order (held_rules block rows n)) e ∙ one_breaks _ _ h
 
@@ -72,11 +69,11 @@ module _ (block rows : List ℕ) where
       item_bytes = ap (held_bytes block rows) e
 
     module _ (subnode : ℕ) (e : named ≡ Subnode subnode) where
-      pub subnode_held : length rows ≤ 8180 → in_order (held_rules block rows named) ≡ Accepted
+      pub subnode_held : length rows ≤ 8180 → in_order (held_rules block rows named) ≡ Ok tt
       unfolding held_rules
       subnode_held h = ap (λ (n : Named). in_order (held_rules block rows n)) e ∙ one_holds _ _ (le-leb _ _ h)
 
-      pub subnode_wrong : 8180 < length rows → in_order (held_rules block rows named) ≡ Refused bad_table
+      pub subnode_wrong : 8180 < length rows → in_order (held_rules block rows named) ≡ Err bad_table
       unfolding held_rules
       subnode_wrong h = ap (λ (n : Named). in_order (held_rules block rows n)) e ∙ one_breaks _ _ (lt-leb _ _ h)
 
@@ -93,42 +90,42 @@ module _ (block rows : List ℕ) where
   unfolding rows_test rows_rules table_test
   table_first = in_order_append (table_rules block) (held_rules block rows (rows_named block))
 
-  pub wrong_table : (r : Refusal) → table_test block ≡ Refused r → rows_test block rows ≡ table_test block
-  wrong_table r e = table_first ∙ ends Refused _ _ r e ∙ sym e
+  pub wrong_table : (r : Refusal) → table_test block ≡ Err r → rows_test block rows ≡ table_test block
+  wrong_table r e = table_first ∙ ends Err _ _ r e ∙ sym e
 
-  pub right_table : table_test block ≡ Accepted → rows_test block rows ≡ in_order (held_rules block rows (rows_named block))
-  right_table e = table_first ∙ goes Refused _ _ e
+  pub right_table : table_test block ≡ Ok tt → rows_test block rows ≡ in_order (held_rules block rows (rows_named block))
+  right_table e = table_first ∙ goes Err _ _ e
 
   -- accepted exactly when the table is sound and its rows are held somewhere
-  pub rows_exactly : (rows_test block rows ≡ Accepted) ↔ (TableSound block × Held block rows (rows_named block))
+  pub rows_exactly : (rows_test block rows ≡ Ok tt) ↔ (TableSound block × Held block rows (rows_named block))
   rows_exactly = (
     (λ e. let all = sym table_first ∙ e in ((table_exactly block).0 (then_left _ _ all), held (rows_named block) (then_right _ _ all))),
     (λ h. right_table ((table_exactly block).1 h.0) ∙ holds (rows_named block) h.1),
   )
 
-  pub count_refused : (r : Refusal) → rows_test block rows ≡ Refused r → count_of block rows ≡ counted.Refused r
+  pub count_refused : (r : Refusal) → rows_test block rows ≡ Err r → count_of block rows ≡ Err r
   unfolding count_of
-  count_refused r e = ends counted.Refused _ _ r e
+  count_refused r e = ends Err _ _ r e
 
-  pub count_on : rows_test block rows ≡ Accepted → count_of block rows ≡ counted.Rows (row_count (table_record block) (row_bytes block rows))
+  pub count_on : rows_test block rows ≡ Ok tt → count_of block rows ≡ Ok (row_count (table_record block) (row_bytes block rows))
   unfolding count_of
-  count_on e = goes counted.Refused _ _ e
+  count_on e = goes Err _ _ e
 
-  pub cell_refused : (row tag : ℕ) (r : Refusal) → rows_test block rows ≡ Refused r → cell_of block rows row tag ≡ cell.Refused r
+  pub cell_refused : (row tag : ℕ) (r : Refusal) → rows_test block rows ≡ Err r → cell_of block rows row tag ≡ Err r
   unfolding cell_of
-  cell_refused row tag r e = ends cell.Refused _ _ r e
+  cell_refused row tag r e = ends Err _ _ r e
 
-  pub cell_on : (row tag : ℕ) → rows_test block rows ≡ Accepted → cell_of block rows row tag ≡ cell_in block (table_record block) (row_bytes block rows) row tag
+  pub cell_on : (row tag : ℕ) → rows_test block rows ≡ Ok tt → cell_of block rows row tag ≡ cell_in block (table_record block) (row_bytes block rows) row tag
   unfolding cell_of
-  cell_on row tag e = goes cell.Refused _ _ e
+  cell_on row tag e = goes Err _ _ e
 
   -- the count is refused exactly with the first fault
-  count_back : (v : Verdict) (n : ℕ) (r : Refusal) → after counted.Refused v (counted.Rows n) ≡ counted.Refused r → v ≡ Refused r
+  count_back : (v : Verdict) (n : ℕ) (r : Refusal) → after Err v (Ok n) ≡ Err r → v ≡ Err r
   unfolding after
-  count_back Accepted n r e = cc
-  count_back (Refused s) n r e = cc
+  count_back (Ok tt) n r e = cc
+  count_back (Err s) n r e = cc
 
-  pub count_told_exactly : (r : Refusal) → (count_of block rows ≡ counted.Refused r) ↔ FirstFault (rows_rules block rows) r
+  pub count_told_exactly : (r : Refusal) → (count_of block rows ≡ Err r) ↔ FirstFault (rows_rules block rows) r
   unfolding count_of rows_test
   count_told_exactly r = (
     (λ e. (refused_exactly (rows_rules block rows) r).0 (count_back (rows_test block rows) (row_count (table_record block) (row_bytes block rows)) r e)),

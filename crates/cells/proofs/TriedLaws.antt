@@ -6,12 +6,8 @@ use mathlib.Core.Logic.{◌↔◌}
 use mathlib.Core.List.{List, [], ◌∷◌}
 use lib.Dec.{leb}
 use Rattle.refusal.specs.declared.Refusal.{Refusal}
-use Rattle.refusal.specs.declared.Verdict.{Verdict}
-use Rattle.refusal.specs.declared.Verdict.TheVariants as verdict
-use Rattle.refusal.specs.Order.{rule, in_order, demand, after, ◌then◌, AllHold, FirstFault}
+use Rattle.refusal.specs.Order.{Verdict, rule, in_order, demand, after, ◌then◌, AllHold, FirstFault}
 use Rattle.refusal.proofs.OrderLaws.{in_order_append, accepted_exactly, refused_exactly}
-use Rattle.keys.specs.declared.Seat.{Seat}
-use Rattle.keys.specs.declared.Seat.TheVariants.{At, Nowhere}
 use Rattle.heap.specs.Items.{item_fits, bad_item}
 use Rattle.columns.specs.declared.Column.{Column}
 use Rattle.columns.specs.Columns.{column_at, refers, seat_of}
@@ -19,51 +15,52 @@ use Rattle.table.specs.declared.Named.{Named}
 use Rattle.table.specs.declared.Named.TheVariants as named
 use Rattle.table.specs.Context.{table_record}
 use Rattle.table.specs.Says.{named_by}
-use Rattle.cells.specs.declared.Cell.{Cell}
-use Rattle.cells.specs.declared.Cell.TheVariants.{Number, Empty, Item, Subnode, Missing, Absent, Refused}
 use Rattle.cells.specs.Rows.{rows_rules, rows_test, row_bytes, row_count, row_at}
 use Rattle.cells.specs.Cells.{exists, named_cell, stored, cell_at, cell_by, cell_in, cell_of}
 use Rattle.cells.specs.Tried.{names_fit, cell_fits, value_rules, inside_rules, cell_rules}
+use Rattle.std.specs.Prelude.{Option, Some, None, Result, Ok, Err}
+use Rattle.cells.specs.declared.Cell.{Cell}
+use Rattle.cells.specs.declared.Cell.TheVariants.{Empty, Item, Missing, Number, Subnode}
 
 -- the refusal of an answer, if it is one
-unfoldable pub refusal_in : Cell → Verdict
-refusal_in (Number value) = verdict.Accepted
-refusal_in Empty = verdict.Accepted
-refusal_in (Item item) = verdict.Accepted
-refusal_in (Subnode subnode) = verdict.Accepted
-refusal_in Missing = verdict.Accepted
-refusal_in Absent = verdict.Accepted
-refusal_in (Refused r) = verdict.Refused r
+unfoldable pub refusal_in : Result (Option Cell) Refusal → Verdict
+refusal_in (Ok (Some (Number value))) = Ok tt
+refusal_in (Ok (Some Empty)) = Ok tt
+refusal_in (Ok (Some (Item item))) = Ok tt
+refusal_in (Ok (Some (Subnode subnode))) = Ok tt
+refusal_in (Ok (Some Missing)) = Ok tt
+refusal_in (Ok None) = Ok tt
+refusal_in (Err r) = Err r
 
-refusal_is : (c : Cell) (r : Refusal) → refusal_in c ≡ verdict.Refused r → c ≡ Refused r
+refusal_is : (c : Result (Option Cell) Refusal) (r : Refusal) → refusal_in c ≡ Err r → c ≡ Err r
 unfolding refusal_in
-refusal_is (Number value) r e = cc
-refusal_is Empty r e = cc
-refusal_is (Item item) r e = cc
-refusal_is (Subnode subnode) r e = cc
-refusal_is Missing r e = cc
-refusal_is Absent r e = cc
-refusal_is (Refused s) r e = cc
+refusal_is (Ok (Some (Number value))) r e = cc
+refusal_is (Ok (Some Empty)) r e = cc
+refusal_is (Ok (Some (Item item))) r e = cc
+refusal_is (Ok (Some (Subnode subnode))) r e = cc
+refusal_is (Ok (Some Missing)) r e = cc
+refusal_is (Ok None) r e = cc
+refusal_is (Err s) r e = cc
 
-refusal_after : (v : Verdict) (c : Cell) → refusal_in (after Refused v c) ≡ (v then refusal_in c)
+refusal_after : (v : Verdict) (c : Result (Option Cell) Refusal) → refusal_in (after Err v c) ≡ (v then refusal_in c)
 unfolding refusal_in after
-refusal_after verdict.Accepted c = refl
-refusal_after (verdict.Refused r) c = refl
+refusal_after (Ok tt) c = refl
+refusal_after (Err r) c = refl
 
 module _ (block table row : List ℕ) where
-  item_tried : (item : ℕ) (there : Bool) → (demand there bad_item then verdict.Accepted) ≡ refusal_in (after Refused (demand there bad_item) (Item item))
+  item_tried : (item : ℕ) (there : Bool) → (demand there bad_item then Ok tt) ≡ refusal_in (after Err (demand there bad_item) (Ok (Some (Item item))))
   unfolding demand after refusal_in
   item_tried item true = refl
   item_tried item false = refl
 
-  named_tried : (n : Named) → (demand (names_fit block n) bad_item then verdict.Accepted) ≡ refusal_in (named_cell block n)
+  named_tried : (n : Named) → (demand (names_fit block n) bad_item then Ok tt) ≡ refusal_in (named_cell block n)
   unfolding names_fit named_cell demand after refusal_in
   named_tried named.Nothing = refl
   named_tried (named.Item item) = item_tried item (item_fits block item)
   named_tried (named.Subnode subnode) = refl
 
   by_case_lem : (there reference : Bool) (n : Named) (value : ℕ)
-      → (demand (not there || not reference || names_fit block n) bad_item then verdict.Accepted) ≡ refusal_in (cond there (cond reference (named_cell block n) (Number value)) Missing)
+      → (demand (not there || not reference || names_fit block n) bad_item then Ok tt) ≡ refusal_in (cond there (cond reference (named_cell block n) (Ok (Some (Number value)))) (Ok (Some Missing)))
   unfolding demand after refusal_in
   by_case_lem false reference n value = refl
   by_case_lem true false n value = refl
@@ -73,16 +70,16 @@ module _ (block table row : List ℕ) where
   unfolding cell_fits cell_at in_order
   value_tried column = by_case_lem (exists table row column) (refers column) (named_by (stored row column)) (stored row column)
 
-  seat_tried : (s : Seat) → in_order (value_rules block table row s) ≡ refusal_in (cell_by block table row s)
+  seat_tried : (s : Option ℕ) → in_order (value_rules block table row s) ≡ refusal_in (cell_by block table row s)
   unfolding value_rules cell_by in_order refusal_in
-  seat_tried (At i) = value_tried (column_at table i)
-  seat_tried Nowhere = refl
+  seat_tried (Some i) = value_tried (column_at table i)
+  seat_tried None = refl
 
 inside_tried : (block table bytes : List ℕ) (row tag : ℕ) → in_order (inside_rules block table bytes row tag) ≡ refusal_in (cell_in block table bytes row tag)
 unfolding inside_rules cell_in in_order refusal_in
 inside_tried block table bytes row tag = by (leb (row + 1) (row_count table bytes))
   where
-    by : (there : Bool) → in_order (cond there (value_rules block table (row_at table bytes row) (seat_of table tag)) []) ≡ refusal_in (cond there (cell_by block table (row_at table bytes row) (seat_of table tag)) Absent)
+    by : (there : Bool) → in_order (cond there (value_rules block table (row_at table bytes row) (seat_of table tag)) []) ≡ refusal_in (cond there (cell_by block table (row_at table bytes row) (seat_of table tag)) (Ok None))
     by true = seat_tried block table (row_at table bytes row) (seat_of table tag)
     by false = refl
 
@@ -96,14 +93,14 @@ module _ (block rows : List ℕ) (row tag : ℕ) where
       ∙ sym (refusal_after (in_order (rows_rules block rows)) (cell_in block (table_record block) (row_bytes block rows) row tag))
 
   -- answered exactly when each rule holds
-  pub cell_answered_exactly : (refusal_in (cell_of block rows row tag) ≡ verdict.Accepted) ↔ AllHold (cell_rules block rows row tag)
+  pub cell_answered_exactly : (refusal_in (cell_of block rows row tag) ≡ Ok tt) ↔ AllHold (cell_rules block rows row tag)
   cell_answered_exactly = (
     (λ e. (accepted_exactly (cell_rules block rows row tag)).0 (cell_tried ∙ e)),
     (λ h. sym cell_tried ∙ (accepted_exactly (cell_rules block rows row tag)).1 h),
   )
 
   -- refused exactly with the first fault
-  pub cell_refused_exactly : (r : Refusal) → (cell_of block rows row tag ≡ Refused r) ↔ FirstFault (cell_rules block rows row tag) r
+  pub cell_refused_exactly : (r : Refusal) → (cell_of block rows row tag ≡ Err r) ↔ FirstFault (cell_rules block rows row tag) r
   unfolding refusal_in
   cell_refused_exactly r = (
     (λ e. (refused_exactly (cell_rules block rows row tag) r).0 (cell_tried ∙ ap refusal_in e)),

@@ -4,7 +4,6 @@ use mathlib.Core.Path.{◌≡◌, refl, sym, ap, ◌∙◌}
 use mathlib.Core.List.{List}
 use native.Mathlib.Omega.{arith}
 use lib.ListN.{length, get_or}
-use Rattle.refusal.specs.declared.Verdict.TheVariants as verdict
 use Rattle.refusal.specs.Order.{after}
 use Rattle.columns.specs.Record.{column_count}
 use Rattle.columns.specs.Columns.{column_at, tags}
@@ -12,11 +11,11 @@ use Rattle.columns.proofs.SeatLaws.{seat_own}
 use Rattle.table.specs.declared.Named.{Named}
 use Rattle.table.specs.declared.Named.TheVariants.{Nothing, Item, Subnode}
 use Rattle.table.specs.Context.{table_record, TableSound}
-use Rattle.cells.specs.declared.Cell.TheVariants as cell
 use Rattle.cells.specs.Rows.{held_rules, held_bytes, rows_named, row_bytes, rows_rules, rows_test, row_count, row_at}
 use Rattle.cells.specs.Cells.{cell_at, cell_in, cell_of}
 use Rattle.cells.proofs.HeldLaws.{cell_on}
 use Rattle.cells.proofs.CellLaws.{known_tag}
+use Rattle.std.specs.Prelude.{Ok, Err}
 
 -- rows' bytes of one length, and the same row in them
 module _ (block table one other : List ℕ) (row tag : ℕ) (long : length one ≡ length other) (same : row_at table one row ≡ row_at table other row) where
@@ -40,10 +39,10 @@ module _ (block one other : List ℕ) (row tag : ℕ) (long : length one ≡ len
 
   pub cell_within : cell_of block one row tag ≡ cell_of block other row tag
   unfolding cell_of rows_test rows_rules row_bytes
-  cell_within = rw (rules_alike (rows_named block)) (ap (after cell.Refused _) (cells_alike (rows_named block)))
+  cell_within = rw (rules_alike (rows_named block)) (ap (after Err _) (cells_alike (rows_named block)))
 
 -- the cell of the i-th column
-module _ (block rows : List ℕ) (sound : TableSound block) (held : rows_test block rows ≡ verdict.Accepted) (row : ℕ) (there : row < row_count (table_record block) (row_bytes block rows)) where
+module _ (block rows : List ℕ) (sound : TableSound block) (held : rows_test block rows ≡ Ok tt) (row : ℕ) (there : row < row_count (table_record block) (row_bytes block rows)) where
   pub cell_own : (i : ℕ) → i < column_count (table_record block)
       → cell_of block rows row (get_or (tags (table_record block)) i 0) ≡ cell_at block (table_record block) (row_at (table_record block) (row_bytes block rows) row) (column_at (table_record block) i)
   cell_own i h =

@@ -1,16 +1,14 @@
 -- Document 02, 5/13: what holds the rows of a table, and how many there are. Assumes nothing: these are definitions.
-use Rattle.std.specs.Prelude.{ℕ, ◌*◌, ◌/◌, ◌≤◌, List, [], ◌∷◌, ◌++◌, leb, length}
+use Rattle.std.specs.Prelude.{ℕ, ◌*◌, ◌/◌, ◌≤◌, List, [], ◌∷◌, ◌++◌, leb, length, Result, Ok, Err}
 use Rattle.le.specs.Bytes.{part}
-use Rattle.refusal.specs.declared.Verdict.{Verdict}
-use Rattle.refusal.specs.Order.{Rule, rule, in_order, after}
+use Rattle.refusal.specs.Order.{Verdict, Rule, rule, in_order, after}
 use Rattle.heap.specs.Items.{item_fits, Numbered, bad_item, item_part}
 use Rattle.columns.specs.Record.{row_size_of, rows_value_of}
 use Rattle.table.specs.declared.Named.{Named}
 use Rattle.table.specs.declared.Named.TheVariants.{Nothing, Item, Subnode}
 use Rattle.table.specs.Context.{bad_table, table_record, table_rules}
 use Rattle.table.specs.Says.{named_by}
-use Rattle.cells.specs.declared.Counted.{Counted}
-use Rattle.cells.specs.declared.Counted.TheVariants.{Rows, Refused}
+use Rattle.refusal.specs.declared.Refusal.{Refusal}
 
 -- what names the rows
 abbrev pub rows_named : List ℕ → Named
@@ -52,5 +50,5 @@ row_count table bytes = length bytes / row_size_of table
 unfoldable pub row_at : List ℕ → List ℕ → ℕ → List ℕ
 row_at table bytes row = part bytes (row * row_size_of table) (row_size_of table)
 
-unfoldable pub count_of : List ℕ → List ℕ → Counted
-count_of block rows = after Refused (rows_test block rows) (Rows (row_count (table_record block) (row_bytes block rows)))
+unfoldable pub count_of : List ℕ → List ℕ → Result ℕ Refusal
+count_of block rows = after Err (rows_test block rows) (Ok (row_count (table_record block) (row_bytes block rows)))

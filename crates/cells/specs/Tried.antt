@@ -1,8 +1,6 @@
 -- The rules that a cell call tries, in the order in which it tries them. Assumes nothing: these are definitions.
-use Rattle.std.specs.Prelude.{ℕ, ◌+◌, Bool, true, cond, not, ◌||◌, List, [], ◌∷◌, ◌++◌, leb}
+use Rattle.std.specs.Prelude.{ℕ, ◌+◌, Bool, true, cond, not, ◌||◌, List, [], ◌∷◌, ◌++◌, leb, Option, Some, None}
 use Rattle.refusal.specs.Order.{Rule, rule}
-use Rattle.keys.specs.declared.Seat.{Seat}
-use Rattle.keys.specs.declared.Seat.TheVariants.{At, Nowhere}
 use Rattle.heap.specs.Items.{item_fits, bad_item}
 use Rattle.columns.specs.declared.Column.{Column}
 use Rattle.columns.specs.Columns.{column_at, refers, seat_of}
@@ -25,9 +23,9 @@ module _ (block table row : List ℕ) where
   cell_fits column = not (exists table row column) || not (refers column) || names_fit block (named_by (stored row column))
 
   -- the rule that is left where the table has the column
-  unfoldable pub value_rules : Seat → List Rule
-  value_rules (At i) = rule (cell_fits (column_at table i)) bad_item ∷ []
-  value_rules Nowhere = []
+  unfoldable pub value_rules : Option ℕ → List Rule
+  value_rules (Some i) = rule (cell_fits (column_at table i)) bad_item ∷ []
+  value_rules None = []
 
 -- and where there is such a row
 unfoldable pub inside_rules : List ℕ → List ℕ → List ℕ → ℕ → ℕ → List Rule

@@ -15,12 +15,6 @@ use keys::Seat;
 use refusal::{Fault, Refusal, Verdict};
 use table::Named;
 
-#[derive(Clone, Copy)]
-pub enum Counted {
-    Rows(u64),
-    Refused(Refusal),
-}
-
 // A cell's number, nothing, the number of the item or subnode that holds its value, or that its row has none.
 #[derive(Clone, Copy)]
 pub enum Cell {
@@ -39,18 +33,18 @@ fn check_held(block: &[u8], rows: &[u8], named: Named) -> Verdict
     ensures { result ≡ in_order (held_rules block.now rows.now named) }
 {
     match named {
-        Named::Nothing => Verdict::Accepted,
+        Named::Nothing => Ok(()),
         Named::Item(item) => {
             if !heap::item_fits(block, item) {
                 return refusal::refused_at(Fault::HeapItem, 0);
             }
-            Verdict::Accepted
+            Ok(())
         }
         Named::Subnode(_) => {
             if 8180 < rows.len() {
                 return refusal::refused_at(Fault::TableShape, 0);
             }
-            Verdict::Accepted
+            Ok(())
         }
     }
 }
@@ -68,7 +62,7 @@ pub fn test_rows(block: &[u8], rows: &[u8]) -> Verdict
     ensures { result ≡ rows_test block.now rows.now }
 {
     let verdict = table::test_table(block);
-    let Verdict::Accepted = verdict else {
+    let Ok(()) = verdict else {
         return verdict;
     };
     check_held(block, rows, rows_named(block))
@@ -97,13 +91,13 @@ pub fn row_count(block: &[u8], bytes: &[u8]) -> usize
 }
 
 // How many rows the table has.
-pub fn count_rows<'a>(block: &'a [u8], rows: &'a [u8]) -> Counted
+pub fn count_rows<'a>(block: &'a [u8], rows: &'a [u8]) -> Result<u64, Refusal>
     ensures { result ≡ count_of block.now rows.now }
 {
     let verdict = test_rows(block, rows);
     match verdict {
-        Verdict::Refused(refusal) => Counted::Refused(refusal),
-        Verdict::Accepted => Counted::Rows(row_count(block, row_bytes(block, rows)) as u64),
+        Err(refusal) => Err(refusal),
+        Ok(()) => Ok(row_count(block, row_bytes(block, rows)) as u64),
     }
 }
 
@@ -130,33 +124,33 @@ fn has_cell(table: &[u8], row: &[u8], column: Column) -> bool
 }
 
 // What a reference says; 19 where it names no item of the heap.
-fn named_cell(block: &[u8], named: Named) -> Cell
+fn named_cell(block: &[u8], named: Named) -> Result<Option<Cell>, Refusal>
     requires { Heap block.now }
     ensures { result ≡ named_cell block.now named }
 {
     match named {
-        Named::Nothing => Cell::Empty,
-        Named::Subnode(subnode) => Cell::Subnode(subnode),
+        Named::Nothing => Ok(Some(Cell::Empty)),
+        Named::Subnode(subnode) => Ok(Some(Cell::Subnode(subnode))),
         Named::Item(item) => {
             if !heap::item_fits(block, item) {
-                return Cell::Refused(Refusal {
+                return Err(Refusal {
                     fault: Fault::HeapItem,
                     place: 0,
                     more: 0,
                 });
             }
-            Cell::Item(item)
+            Ok(Some(Cell::Item(item)))
         }
     }
 }
 
 // The cell of a row in a column, of an accepted table with this record.
-pub fn cell_at(block: &[u8], table: &[u8], row: &[u8], column: Column) -> Cell
+pub fn cell_at(block: &[u8], table: &[u8], row: &[u8], column: Column) -> Result<Option<Cell>, Refusal>
     requires { Heap block.now × RecordSound table.now × ColumnSound table.now column × (length row.now ≡ row_size_of table.now) × (column.bit < 256) }
     ensures { result ≡ cell_at block.now table.now row.now column }
 {
     if !has_cell(table, row, column) {
-        return Cell::Missing;
+        return Ok(Some(Cell::Missing));
     }
     let offset = column.offset;
     let width = column.width;
@@ -164,34 +158,34 @@ pub fn cell_at(block: &[u8], table: &[u8], row: &[u8], column: Column) -> Cell
     if columns::refers(column) {
         return named_cell(block, table::named_by(stored as u32));
     }
-    Cell::Number(stored)
+    Ok(Some(Cell::Number(stored)))
 }
 
 // The cell of an accepted table whose rows are these bytes.
-fn cell_in(block: &[u8], bytes: &[u8], row: u32, tag: u32) -> Cell
+fn cell_in(block: &[u8], bytes: &[u8], row: u32, tag: u32) -> Result<Option<Cell>, Refusal>
     requires { TableSound block.now }
     ensures { result ≡ cell_in block.now (table_record block.now) bytes.now row tag }
 {
     let i = row as usize;
     if row_count(block, bytes) < i + 1 {
-        return Cell::Absent;
+        return Ok(None);
     }
     let table = table::record_of(block);
     let seat = columns::seat_of(table, tag);
-    let Seat::At(index) = seat else {
-        return Cell::Absent;
+    let Some(index) = seat else {
+        return Ok(None);
     };
     let column = columns::column_at(table, index);
     cell_at(block, table, row_at(block, bytes, i), column)
 }
 
 // A cell by row number and tag, of a block that need not hold a table.
-pub fn cell_of<'a>(block: &'a [u8], rows: &'a [u8], row: u32, tag: u32) -> Cell
+pub fn cell_of<'a>(block: &'a [u8], rows: &'a [u8], row: u32, tag: u32) -> Result<Option<Cell>, Refusal>
     ensures { result ≡ cell_of block.now rows.now row tag }
 {
     let verdict = test_rows(block, rows);
     match verdict {
-        Verdict::Refused(refusal) => Cell::Refused(refusal),
-        Verdict::Accepted => cell_in(block, row_bytes(block, rows), row, tag),
+        Err(refusal) => Err(refusal),
+        Ok(()) => cell_in(block, row_bytes(block, rows), row, tag),
     }
 }

@@ -3,11 +3,11 @@ use Rattle.std.proofs.Common.{◌≡◌, ℕ, suc, ◌+◌, ◌/◌, ◌%◌, �
 use lib.ListN.{length-map}
 use borrow.Author.Tests.{lt-leb}
 use Rattle.refusal.specs.declared.Fault.TheVariants.{Encoding}
-use Rattle.refusal.specs.declared.Verdict.TheVariants.{Accepted, Refused}
 use Rattle.refusal.specs.Order.{◌at◌}
 use Rattle.refusal.proofs.OrderLaws.{passes, breaks}
 use Rattle.coding.specs.Coding.{plus, minus, cyclic_byte, cyclic, word, coded, method_fits}
 use Rattle.coding.specs.Table.{R, S, I}
+use Rattle.std.specs.Prelude.{Ok, Err}
 
 module _ (f : ℕ → ℕ) (method block : ℕ) (s : List ℕ) where
   pub coded_permute : method ≡ 1 → coded f method block s ≡ map f s
@@ -22,11 +22,11 @@ module _ (f : ℕ → ℕ) (method block : ℕ) (s : List ℕ) where
   unfolding coded
   coded_none h k = simp (ne_eqb method 1 h, ne_eqb method 2 k)
 
-pub method_fits_lem : (method : ℕ) → method ≤ 2 → method_fits method ≡ Accepted
+pub method_fits_lem : (method : ℕ) → method ≤ 2 → method_fits method ≡ Ok tt
 unfolding method_fits
 method_fits_lem method h = passes _ _ (le-leb method 2 h)
 
-pub method_refused : (method : ℕ) → 2 < method → method_fits method ≡ Refused (Encoding at 0)
+pub method_refused : (method : ℕ) → 2 < method → method_fits method ≡ Err (Encoding at 0)
 unfolding method_fits
 method_refused method h = breaks _ _ (lt-leb method 2 h)
 

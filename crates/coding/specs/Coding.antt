@@ -1,8 +1,7 @@
 -- Document 01, "Blocks and their encoding" (003, 5.1 and 5.2). Assumes nothing: these are definitions.
 use Rattle.std.specs.Prelude.{ℕ, ◌+◌, ◌-◌, ◌/◌, ◌%◌, cond, List, [], ◌∷◌, map, ◌==◌, bit_xor, nat_le}
-use Rattle.refusal.specs.declared.Verdict.{Verdict}
 use Rattle.refusal.specs.declared.Fault.TheVariants.{Encoding}
-use Rattle.refusal.specs.Order.{◌at◌, demand}
+use Rattle.refusal.specs.Order.{Verdict, ◌at◌, demand}
 use Rattle.coding.specs.Table.{R, S, I}
 
 -- "all modulo 256"

@@ -131,13 +131,13 @@ fn code(method: u8, from: usize, block: u64, bytes: &mut [u8]) -> Verdict
     }
     if method == 1 {
         permute(bytes, from);
-        return Verdict::Accepted;
+        return Ok(());
     }
     if method == 2 {
         cycle(bytes, word_of(block));
-        return Verdict::Accepted;
+        return Ok(());
     }
-    Verdict::Accepted
+    Ok(())
 }
 
 pub fn encode(method: u8, block: u64, bytes: &mut [u8]) -> Verdict

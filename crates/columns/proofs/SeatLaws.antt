@@ -11,8 +11,6 @@ use lib.ListN.{length, get_or, length-map}
 use borrow.Author.Tests.{eq-eqb, eqb-false, ne_eqb}
 use Rattle.le.specs.Bytes.{field}
 use Rattle.le.proofs.FieldLaws.{field_part}
-use Rattle.keys.specs.declared.Seat.{Seat}
-use Rattle.keys.specs.declared.Seat.TheVariants.{At, Nowhere}
 use Rattle.keys.specs.declared.Sought.TheVariants.{Equal}
 use Rattle.keys.specs.Plain.{Missing}
 use Rattle.keys.specs.Records.{significant, records, key_at, key_of}
@@ -22,34 +20,35 @@ use Rattle.keys.proofs.FoundLaws.{found_inside, keys_are}
 use Rattle.columns.specs.Record.{column_count}
 use Rattle.columns.specs.Columns.{column_at, column_shape, column_bytes, tags, seat_of}
 use Rattle.columns.specs.Sound.{RecordSound, ColumnsSound}
+use Rattle.std.specs.Prelude.{Option, Some, None}
 
 -- the first of some numbers that equals k
 module _ (k : ℕ) where
-  onward_not : (s : Seat) → onward s ≡ Nowhere → s ≡ Nowhere
+  onward_not : (s : Option ℕ) → onward s ≡ None → s ≡ None
   unfolding onward
-  onward_not (At i) e = let clash : ◌≡◌ {A = ℕ} 0 1 = cc in absurd (omega arith)
-  onward_not Nowhere e = refl
+  onward_not (Some i) e = let clash : ◌≡◌ {A = ℕ} 0 1 = cc in absurd (omega arith)
+  onward_not None e = refl
 
   -- nowhere exactly when it is missing
-  seat_missing : (xs : List ℕ) → first_that Equal k xs ≡ Nowhere → Missing k xs
+  seat_missing : (xs : List ℕ) → first_that Equal k xs ≡ None → Missing k xs
   unfolding first_that meets
   seat_missing [] e = tt
   seat_missing (x ∷ xs) e = by (eqb x k) refl e (seat_missing xs)
     where
-      by : (b : Bool) → eqb x k ≡ b → cond b (At 0) (onward (first_that Equal k xs)) ≡ Nowhere → (first_that Equal k xs ≡ Nowhere → Missing k xs) → Missing k (x ∷ xs)
+      by : (b : Bool) → eqb x k ≡ b → cond b (Some 0) (onward (first_that Equal k xs)) ≡ None → (first_that Equal k xs ≡ None → Missing k xs) → Missing k (x ∷ xs)
       by true t e rest = let clash : ◌≡◌ {A = ℕ} 0 1 = cc in absurd (omega arith)
       by false t e rest = (λ same. eqb-false x k t (sym same), rest (onward_not _ e))
 
-  missing_seat : (xs : List ℕ) → Missing k xs → first_that Equal k xs ≡ Nowhere
+  missing_seat : (xs : List ℕ) → Missing k xs → first_that Equal k xs ≡ None
   unfolding first_that meets onward
   missing_seat [] m = refl
   missing_seat (x ∷ xs) m = rw (ne_eqb x k (λ same. m.0 (sym same)), missing_seat xs m.1)
 
-  pub nowhere_exactly : (xs : List ℕ) → (first_that Equal k xs ≡ Nowhere) ↔ Missing k xs
+  pub nowhere_exactly : (xs : List ℕ) → (first_that Equal k xs ≡ None) ↔ Missing k xs
   nowhere_exactly xs = (seat_missing xs, missing_seat xs)
 
   -- at a number that equals it, where none before does
-  pub seat_first : (xs : List ℕ) (i : ℕ) → i < length xs → get_or xs i 0 ≡ k → ((j : ℕ) → j < i → get_or xs j 0 ≡ k → ⊥) → first_that Equal k xs ≡ At i
+  pub seat_first : (xs : List ℕ) (i : ℕ) → i < length xs → get_or xs i 0 ≡ k → ((j : ℕ) → j < i → get_or xs j 0 ≡ k → ⊥) → first_that Equal k xs ≡ Some i
   unfolding first_that meets onward
   seat_first [] i h e d = absurd (not-suc-le-zero h)
   seat_first (x ∷ xs) zero h e d = rw (eq-eqb x k e)
@@ -93,18 +92,18 @@ module _ (table : List ℕ) (sound : RecordSound table) where
       ap length (keys_are column_shape count (column_bytes table)) ∙ length-map (records column_shape count (column_bytes table)) (key_of column_shape) ∙ records_length column_shape count (column_bytes table)
 
   -- a column that is found is one of them
-  pub seat_inside : (tag i : ℕ) → At i ≡ seat_of table tag → i < count
+  pub seat_inside : (tag i : ℕ) → Some i ≡ seat_of table tag → i < count
   unfolding seat_of tags
   seat_inside tag i e = found_inside column_shape count (column_bytes table) Equal tag i e
 
   -- none is found exactly when none has the tag
-  pub unknown_exactly : (tag : ℕ) → (seat_of table tag ≡ Nowhere) ↔ Missing tag (tags table)
+  pub unknown_exactly : (tag : ℕ) → (seat_of table tag ≡ None) ↔ Missing tag (tags table)
   unfolding seat_of
   unknown_exactly tag = nowhere_exactly tag (tags table)
 
   -- and where no two share a tag each is found by its own
   module _ (columns : ColumnsSound table) where
-    pub seat_own : (i : ℕ) → i < count → seat_of table (get_or (tags table) i 0) ≡ At i
+    pub seat_own : (i : ℕ) → i < count → seat_of table (get_or (tags table) i 0) ≡ Some i
     unfolding seat_of
     seat_own i h =
         seat_first (get_or (tags table) i 0) (tags table) i (rw tags_length h) refl

@@ -1,7 +1,6 @@
 -- Document 02, 5/13, and 003, 2.3.4.2: the columns of a table record, and their rules. Assumes nothing: these are definitions.
-use Rattle.std.specs.Prelude.{ℕ, zero, suc, ◌+◌, ◌*◌, ◌-◌, ◌/◌, ◌%◌, Bool, true, false, cond, not, ◌&&◌, ◌||◌, List, leb, eqb}
+use Rattle.std.specs.Prelude.{ℕ, zero, suc, ◌+◌, ◌*◌, ◌-◌, ◌/◌, ◌%◌, Bool, true, false, cond, not, ◌&&◌, ◌||◌, List, leb, eqb, Option}
 use Rattle.le.specs.Bytes.{byte, field, part}
-use Rattle.keys.specs.declared.Seat.{Seat}
 use Rattle.keys.specs.declared.Shape.{Shape}
 use Rattle.keys.specs.declared.Sought.TheVariants.{Equal}
 use Rattle.keys.specs.Records.{keys_of}
@@ -67,5 +66,5 @@ module _ (table : List ℕ) where
   unfoldable pub tags : List ℕ
   tags = keys_of column_shape (column_count table) column_bytes
 
-  unfoldable pub seat_of : ℕ → Seat
+  unfoldable pub seat_of : ℕ → Option ℕ
   seat_of tag = first_that Equal tag tags

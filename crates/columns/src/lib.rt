@@ -152,7 +152,7 @@ pub fn each_fits(table: &[u8]) -> bool
 }
 
 // Where the column with the tag stands among the columns.
-pub fn seat_of(table: &[u8], tag: u32) -> Seat
+pub fn seat_of(table: &[u8], tag: u32) -> Option<usize>
     requires { RecordSound table.now }
     ensures { result ≡ seat_of table.now tag }
 {

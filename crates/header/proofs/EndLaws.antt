@@ -11,15 +11,14 @@ use Rattle.le.specs.Bytes.{part}
 use Rattle.le.proofs.FieldLaws.{part_kept}
 use Rattle.refusal.specs.declared.Fault.TheVariants.{ImageLength, Encoding}
 use Rattle.refusal.specs.declared.Refusal.{Refusal}
-use Rattle.refusal.specs.declared.Verdict.{Verdict}
-use Rattle.refusal.specs.Order.{◌at◌, after, Rule, rule, AllHold, none, both, FirstFault}
+use Rattle.refusal.specs.Order.{Verdict, ◌at◌, after, Rule, rule, AllHold, none, both, FirstFault}
 use Rattle.refusal.proofs.OrderLaws.{Each, last_exactly, hold_apart, hold_both}
 use Rattle.header.specs.declared.Header.{Header}
-use Rattle.header.specs.declared.HeaderAnswer.TheVariants.{Says, Refused}
 use Rattle.header.specs.Header.{edition_of, method_place, encoding_fits, end_place, stated_end, end_fits, mark_rules, seal_rules, last_rules, header_rules, header_fits, method_of, header_of, file_end}
 use Rattle.header.specs.End.{Above, AlikeToEnd, Hanging, LooksToEnd}
 use Rattle.header.proofs.EditionLaws.{fair_places}
 use Rattle.header.proofs.HeaderLaws.{part_agrees, edition_agrees, stated_agrees, rules_agree, says_agrees, method_agrees}
+use Rattle.std.specs.Prelude.{Ok, Err}
 
 -- behind bytes that hold the whole header and reach its number
 module _ (kept more : List ℕ) (whole : 564 ≤ length kept) (ended : stated_end kept ≤ length kept) where
@@ -76,7 +75,7 @@ module _ (one other : List ℕ) (alike : AlikeToEnd one other) where
 
   pub answer_alike : header_of one ≡ header_of other
   unfolding header_of
-  answer_alike = ap₂ (λ (v : Verdict) (h : Header). after Refused v (Says h)) header_alike (says_agrees one other alike.header)
+  answer_alike = ap₂ (λ (v : Verdict) (h : Header). after Err v (Ok h)) header_alike (says_agrees one other alike.header)
 
 -- 1 at the number's place is refused exactly when all that comes before holds, and the number is above the image's length
 module _ (image : List ℕ) where

@@ -15,7 +15,6 @@ use Rattle.le.proofs.FieldLaws.{part_part, part_append, byte_part, field_none, f
 use Rattle.crc.specs.Checksum.{checksum, checksum_from}
 use Rattle.crc.proofs.ChecksumLaws.{checksum_append}
 use Rattle.refusal.specs.declared.Refusal.{Refusal}
-use Rattle.refusal.specs.declared.Verdict.TheVariants.{Accepted, Refused}
 use Rattle.refusal.specs.declared.Fault.TheVariants.{ImageLength, HeaderChecksum, Encoding}
 use Rattle.refusal.specs.Order.{◌at◌, Rule, rule, ◌then◌, in_order, AllHold, none, both, FirstFault}
 use Rattle.refusal.proofs.OrderLaws.{demanded, then_left, accepted_exactly, refused_exactly, in_order_append}
@@ -26,12 +25,13 @@ use Rattle.header.specs.Header.{length_fits, magic_fits, client_fits, version_of
 use Rattle.header.specs.declared.Header.{Header}
 use Rattle.header.specs.Sound.{HeaderSound}
 use Rattle.header.proofs.EditionLaws.{fair_places, fair_nodes, fair_blocks}
+use Rattle.std.specs.Prelude.{Ok, Err}
 
 pub long_enough : (image : List ℕ) → length_fits image ≡ true → 564 ≤ length image
 unfolding length_fits
 long_enough image e = leb-true 564 (length image) (and_both (leb 564 (length image)) (leb (length image) 1073741824) e).0
 
-pub marks_long : (image : List ℕ) → in_order (mark_rules image) ≡ Accepted → 564 ≤ length image
+pub marks_long : (image : List ℕ) → in_order (mark_rules image) ≡ Ok tt → 564 ≤ length image
 unfolding mark_rules in_order
 marks_long image e = long_enough image (demanded _ _ (then_left _ _ e))
 
@@ -48,7 +48,7 @@ pub header_is : (image : List ℕ) → header_fits image ≡ (in_order (mark_rul
 unfolding header_fits
 header_is image = in_order_append (mark_rules image ++ seal_rules image) (last_rules image)
 
-pub fields_long : (image : List ℕ) → in_order (mark_rules image ++ seal_rules image) ≡ Accepted → 564 ≤ length image
+pub fields_long : (image : List ℕ) → in_order (mark_rules image ++ seal_rules image) ≡ Ok tt → 564 ≤ length image
 fields_long image e = marks_long image (then_left _ _ (sym (fields_are image) ∙ e))
 
 -- the second checksum goes on from the first
@@ -155,7 +155,7 @@ holds_of image h =
     (both (le-leb _ _ h.end) none))))))))
 
 -- the header is accepted exactly when each of its rules holds
-pub header_exactly : (image : List ℕ) → (header_fits image ≡ Accepted) ↔ HeaderSound image
+pub header_exactly : (image : List ℕ) → (header_fits image ≡ Ok tt) ↔ HeaderSound image
 unfolding header_fits
 header_exactly image = (
   (λ e. sound_of image ((accepted_exactly (header_rules image)).0 e)),
@@ -163,12 +163,12 @@ header_exactly image = (
 )
 
 -- a refusal names the first fault: its test fails, and each test before it holds
-pub header_first_fault : (image : List ℕ) (r : Refusal) → (header_fits image ≡ Refused r) ↔ FirstFault (header_rules image) r
+pub header_first_fault : (image : List ℕ) (r : Refusal) → (header_fits image ≡ Err r) ↔ FirstFault (header_rules image) r
 unfolding header_fits
 header_first_fault image r = refused_exactly (header_rules image) r
 
 -- an accepted image has a whole header
-pub header_length : (image : List ℕ) → header_fits image ≡ Accepted → 564 ≤ length image
+pub header_length : (image : List ℕ) → header_fits image ≡ Ok tt → 564 ≤ length image
 header_length image e = ((header_exactly image).0 e).length_low
 
 -- bytes that agree up to a place have the same parts before it

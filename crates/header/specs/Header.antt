@@ -1,18 +1,16 @@
 -- Document 01, "Header" (003, 2.2.2.5 and 2.2.2.6), and document 02, 6/13: where the file ends, and 7/13: which edition it is of. Assumes nothing: these are definitions.
-use Rattle.std.specs.Prelude.{ℕ, ◌+◌, min, Bool, true, ◌&&◌, ◌||◌, cond, List, [], ◌∷◌, ◌++◌, eqb, leb, length}
+use Rattle.std.specs.Prelude.{ℕ, ◌+◌, min, Bool, true, ◌&&◌, ◌||◌, cond, List, [], ◌∷◌, ◌++◌, eqb, leb, length, Result, Ok, Err}
 use Rattle.le.specs.Bytes.{part, field, byte}
 use Rattle.crc.specs.Checksum.{checksum}
-use Rattle.refusal.specs.declared.Verdict.{Verdict}
 use Rattle.refusal.specs.declared.Fault.TheVariants.{ImageLength, Magic, Version, HeaderChecksum, Encoding}
-use Rattle.refusal.specs.Order.{◌at◌, Rule, rule, in_order, after}
+use Rattle.refusal.specs.Order.{Verdict, ◌at◌, Rule, rule, in_order, after}
 use Rattle.edition.specs.declared.HeaderPlaces.{HeaderPlaces}
 use Rattle.edition.specs.declared.Layout.{Layout}
 use Rattle.edition.specs.declared.Edition.{Edition}
 use Rattle.edition.specs.Editions.{edition64, edition32}
 use Rattle.header.specs.declared.Reference.{Reference}
 use Rattle.header.specs.declared.Header.{Header}
-use Rattle.header.specs.declared.HeaderAnswer.{HeaderAnswer}
-use Rattle.header.specs.declared.HeaderAnswer.TheVariants.{Says, Refused}
+use Rattle.refusal.specs.declared.Refusal.{Refusal}
 
 -- "image 564 to 1,073,741,824 bytes"
 unfoldable pub length_fits : List ℕ → Bool
@@ -132,8 +130,8 @@ says image =
     }
 
 -- the outcome of the header call
-unfoldable pub header_of : List ℕ → HeaderAnswer
-header_of image = after Refused (header_fits image) (Says (says image))
+unfoldable pub header_of : List ℕ → Result Header Refusal
+header_of image = after Err (header_fits image) (Ok (says image))
 
 -- where pages and blocks must end at the latest: "at or before both it and the image's end"
 unfoldable pub file_end : List ℕ → ℕ

@@ -27,12 +27,6 @@ pub struct Header {
     pub edition: u64,
 }
 
-#[derive(Clone, Copy)]
-pub enum HeaderAnswer {
-    Says(Header),
-    Refused(Refusal),
-}
-
 fn length_fits(image: &[u8]) -> bool
     ensures { result ≡ length_fits image.now }
 {
@@ -224,7 +218,7 @@ fn check_marks(image: &[u8]) -> Verdict
     if !version_fits(image) {
         return refusal::refused_at(Fault::Version, 10);
     }
-    Verdict::Accepted
+    Ok(())
 }
 
 // The two checksums and the sentinel.
@@ -243,7 +237,7 @@ fn check_seals(image: &[u8]) -> Verdict
     if !sentinel_fits(image, places) {
         return refusal::refused_at(Fault::Encoding, places.sentinel as u64);
     }
-    Verdict::Accepted
+    Ok(())
 }
 
 // The encoding method, and where the file ends.
@@ -261,7 +255,7 @@ fn check_last(image: &[u8]) -> Verdict
     if !reached {
         return refusal::refused_at(Fault::ImageLength, end.place as u64);
     }
-    Verdict::Accepted
+    Ok(())
 }
 
 // The marks and the seals.
@@ -269,7 +263,7 @@ fn check_fields(image: &[u8]) -> Verdict
     ensures { result ≡ in_order (mark_rules image.now ++ seal_rules image.now) }
 {
     let verdict = check_marks(image);
-    let Verdict::Accepted = verdict else {
+    let Ok(()) = verdict else {
         return verdict;
     };
     check_seals(image)
@@ -279,7 +273,7 @@ pub fn check_header(image: &[u8]) -> Verdict
     ensures { result ≡ header_fits image.now }
 {
     let verdict = check_fields(image);
-    let Verdict::Accepted = verdict else {
+    let Ok(()) = verdict else {
         return verdict;
     };
     check_last(image)
@@ -297,19 +291,19 @@ fn root_at(image: &[u8], l: Layout) -> Reference
     Reference { number, offset }
 }
 
-pub fn header_of(image: &[u8]) -> HeaderAnswer
+pub fn header_of(image: &[u8]) -> Result<Header, Refusal>
     ensures { result ≡ header_of image.now }
 {
     let verdict = check_header(image);
-    if let Verdict::Refused(refusal) = verdict {
-        return HeaderAnswer::Refused(refusal);
+    if let Err(refusal) = verdict {
+        return Err(refusal);
     }
     let nodes = root_at(image, nodes_of(image));
     let blocks = root_at(image, blocks_of(image));
     let method = method_of(image);
     let end = stated_end(image);
     let edition = bits_of(image);
-    HeaderAnswer::Says(Header {
+    Ok(Header {
         method,
         nodes,
         blocks,

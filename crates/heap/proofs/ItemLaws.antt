@@ -11,15 +11,12 @@ use borrow.Author.Tests.{leb-true, le-leb, eqb-true, eq-eqb}
 use Rattle.laws.proofs.Tests.{and_both, both_and}
 use Rattle.le.proofs.FieldLaws.{part_length}
 use Rattle.refusal.specs.declared.Refusal.{Refusal}
-use Rattle.refusal.specs.declared.Verdict.{Verdict}
-use Rattle.refusal.specs.declared.Verdict.TheVariants.{Accepted, Refused}
-use Rattle.refusal.specs.Order.{rule, demand, after, ◌then◌, in_order, FirstFault}
+use Rattle.refusal.specs.Order.{Verdict, rule, demand, after, ◌then◌, in_order, FirstFault}
 use Rattle.refusal.proofs.OrderLaws.{passes, goes, ends, demanded, then_left, then_right, refused_exactly, in_order_append}
-use Rattle.heap.specs.declared.Span.{Span}
-use Rattle.heap.specs.declared.Span.TheVariants.{Within}
 use Rattle.heap.specs.Shape.{map_offset, item_count, offset, shape_rules, heap_test, Heap}
 use Rattle.heap.specs.Items.{item_kind, item_index, item_block, item_fits, Numbered, bad_item, item_rules, item_test, item_start, item_end, item_length, item_part, item_or, item_span, Lies}
 use Rattle.heap.proofs.ShapeLaws.{heap_exactly}
+use Rattle.std.specs.Prelude.{Ok, Err}
 
 -- a number names an item exactly when each rule of item numbers holds
 module _ (block : List ℕ) (item : ℕ) where
@@ -45,10 +42,10 @@ module _ (block : List ℕ) (item : ℕ) where
   number_exactly = (numbered, fits)
 
 -- a check with nothing behind it
-last_check : (v : Verdict) → (v then Accepted) ≡ v
+last_check : (v : Verdict) → (v then Ok tt) ≡ v
 unfolding after
-last_check Accepted = refl
-last_check (Refused r) = refl
+last_check (Ok tt) = refl
+last_check (Err r) = refl
 
 module _ (block : List ℕ) (item : ℕ) where
   -- the heap's shape first, then the number
@@ -58,46 +55,46 @@ module _ (block : List ℕ) (item : ℕ) where
       in_order_append (shape_rules block) (rule (item_fits block item) bad_item ∷ [])
       ∙ ap (λ (v : Verdict). in_order (shape_rules block) then v) (last_check (demand (item_fits block item) bad_item))
 
-  pub item_shape : (r : Refusal) → heap_test block ≡ Refused r → item_test block item ≡ heap_test block
-  item_shape r e = item_test_lem ∙ ends Refused _ _ r e ∙ sym e
+  pub item_shape : (r : Refusal) → heap_test block ≡ Err r → item_test block item ≡ heap_test block
+  item_shape r e = item_test_lem ∙ ends Err _ _ r e ∙ sym e
 
-  pub item_number : heap_test block ≡ Accepted → item_test block item ≡ demand (item_fits block item) bad_item
-  item_number e = item_test_lem ∙ goes Refused _ _ e
+  pub item_number : heap_test block ≡ Ok tt → item_test block item ≡ demand (item_fits block item) bad_item
+  item_number e = item_test_lem ∙ goes Err _ _ e
 
   -- an item is accepted exactly when the block is a heap and the number names an item of it
-  pub item_exactly : (item_test block item ≡ Accepted) ↔ (Heap block × Numbered block item)
+  pub item_exactly : (item_test block item ≡ Ok tt) ↔ (Heap block × Numbered block item)
   item_exactly = (says, said)
     where
-      says : item_test block item ≡ Accepted → Heap block × Numbered block item
+      says : item_test block item ≡ Ok tt → Heap block × Numbered block item
       says e =
           let both = sym item_test_lem ∙ e in
           ((heap_exactly block).0 (then_left _ _ both), (number_exactly block item).0 (demanded _ _ (then_right _ _ both)))
 
-      said : Heap block × Numbered block item → item_test block item ≡ Accepted
+      said : Heap block × Numbered block item → item_test block item ≡ Ok tt
       said h =
-          item_test_lem ∙ goes Refused _ _ ((heap_exactly block).1 h.0) ∙ passes _ _ ((number_exactly block item).1 h.1)
+          item_test_lem ∙ goes Err _ _ ((heap_exactly block).1 h.0) ∙ passes _ _ ((number_exactly block item).1 h.1)
 
   -- and refused exactly with the first rule that is broken
-  pub item_refused_exactly : (r : Refusal) → (item_test block item ≡ Refused r) ↔ FirstFault (item_rules block item) r
+  pub item_refused_exactly : (r : Refusal) → (item_test block item ≡ Err r) ↔ FirstFault (item_rules block item) r
   unfolding item_test
   item_refused_exactly r = refused_exactly (item_rules block item) r
 
   -- what is answered for an accepted item, and for a refused one
-  pub item_taken : item_test block item ≡ Accepted → item_or block item ≡ item_part block item
+  pub item_taken : item_test block item ≡ Ok tt → item_or block item ≡ item_part block item
   unfolding item_or
   item_taken e = goes (λ refusal. []) _ _ e
 
-  pub item_empty : (r : Refusal) → item_test block item ≡ Refused r → item_or block item ≡ []
+  pub item_empty : (r : Refusal) → item_test block item ≡ Err r → item_or block item ≡ []
   unfolding item_or
   item_empty r e = ends (λ refusal. []) _ _ r e
 
-  pub span_taken : item_test block item ≡ Accepted → item_span block item ≡ Within (item_start block item) (item_length block item)
+  pub span_taken : item_test block item ≡ Ok tt → item_span block item ≡ Ok (record { start = (item_start block item); length = (item_length block item) })
   unfolding item_span
-  span_taken e = goes Span.Refused _ _ e
+  span_taken e = goes Err _ _ e
 
-  pub span_refused : (r : Refusal) → item_test block item ≡ Refused r → item_span block item ≡ Span.Refused r
+  pub span_refused : (r : Refusal) → item_test block item ≡ Err r → item_span block item ≡ Err r
   unfolding item_span
-  span_refused r e = ends Span.Refused _ _ r e
+  span_refused r e = ends Err _ _ r e
 
 -- an item lies inside the block
 module _ (block : List ℕ) (h : Heap block) where
@@ -146,5 +143,5 @@ module _ (block : List ℕ) (h : Heap block) where
         }
 
 -- an accepted item lies inside the block
-pub accepted_lies : (block : List ℕ) (item : ℕ) → item_test block item ≡ Accepted → Lies block item
+pub accepted_lies : (block : List ℕ) (item : ℕ) → item_test block item ≡ Ok tt → Lies block item
 accepted_lies block item e = let both = (item_exactly block item).0 e in item_lies block both.0 item both.1

@@ -11,11 +11,10 @@ use borrow.Author.Tests.{leb-true, leb-false, le-leb, eqb-true, eq-eqb}
 use Rattle.laws.proofs.Tests.{and_both, both_and}
 use Rattle.le.specs.Bytes.{byte}
 use Rattle.refusal.specs.declared.Refusal.{Refusal}
-use Rattle.refusal.specs.declared.Verdict.{Verdict}
-use Rattle.refusal.specs.declared.Verdict.TheVariants.{Accepted, Refused}
-use Rattle.refusal.specs.Order.{demand, after, ◌then◌, in_order, AllHold, none, both, FirstFault}
+use Rattle.refusal.specs.Order.{Verdict, demand, after, ◌then◌, in_order, AllHold, none, both, FirstFault}
 use Rattle.refusal.proofs.OrderLaws.{accepted_exactly, refused_exactly}
 use Rattle.heap.specs.Shape.{map_offset, item_count, offset, map_end, never_fall, offsets_fit, bad_shape, shape_rules, heap_test, Heap}
+use Rattle.std.specs.Prelude.{Ok, Err}
 
 -- a number up to n + 1 is up to n, or n + 1
 up_to : (P : ℕ → Type 0) (n i : ℕ) → (i ≤ n → P i) → P (suc n) → i ≤ suc n → P i
@@ -100,30 +99,30 @@ module _ (block : List ℕ) where
       none)))))
 
   -- a block is accepted as a heap exactly when it is one
-  pub heap_exactly : (heap_test block ≡ Accepted) ↔ Heap block
+  pub heap_exactly : (heap_test block ≡ Ok tt) ↔ Heap block
   unfolding heap_test
   heap_exactly =
       (λ e. facts ((accepted_exactly (shape_rules block)).0 e), λ h. (accepted_exactly (shape_rules block)).1 (tests h))
 
   -- and refused exactly with the first rule that it breaks
-  pub heap_refused_exactly : (r : Refusal) → (heap_test block ≡ Refused r) ↔ FirstFault (shape_rules block) r
+  pub heap_refused_exactly : (r : Refusal) → (heap_test block ≡ Err r) ↔ FirstFault (shape_rules block) r
   unfolding heap_test
   heap_refused_exactly r = refused_exactly (shape_rules block) r
 
 -- a block that is no heap is refused with 18, and with nothing else
-accepted_or : (t : Bool) (r : Refusal) (v : Verdict) → (v ≡ Accepted) ⊎ (v ≡ Refused r) → ((demand t r then v) ≡ Accepted) ⊎ ((demand t r then v) ≡ Refused r)
+accepted_or : (t : Bool) (r : Refusal) (v : Verdict) → (v ≡ Ok tt) ⊎ (v ≡ Err r) → ((demand t r then v) ≡ Ok tt) ⊎ ((demand t r then v) ≡ Err r)
 unfolding demand after
 accepted_or true r v s = s
 accepted_or false r v s = inr refl
 
-either : (block : List ℕ) → (heap_test block ≡ Accepted) ⊎ (heap_test block ≡ Refused bad_shape)
+either : (block : List ℕ) → (heap_test block ≡ Ok tt) ⊎ (heap_test block ≡ Err bad_shape)
 unfolding heap_test shape_rules in_order
 either block =
     accepted_or _ _ _ (accepted_or _ _ _ (accepted_or _ _ _ (accepted_or _ _ _ (accepted_or _ _ _ (accepted_or _ _ _ (inl refl))))))
 
-pub not_heap : (block : List ℕ) → (Heap block → ⊥) → heap_test block ≡ Refused bad_shape
+pub not_heap : (block : List ℕ) → (Heap block → ⊥) → heap_test block ≡ Err bad_shape
 not_heap block n = by (either block)
   where
-    by : (heap_test block ≡ Accepted) ⊎ (heap_test block ≡ Refused bad_shape) → heap_test block ≡ Refused bad_shape
+    by : (heap_test block ≡ Ok tt) ⊎ (heap_test block ≡ Err bad_shape) → heap_test block ≡ Err bad_shape
     by (inl e) = absurd (n ((heap_exactly block).0 e))
     by (inr e) = e

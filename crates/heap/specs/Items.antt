@@ -1,13 +1,11 @@
 -- Document 01, "Heap and properties": item numbers (19) and items. Assumes nothing: these are definitions.
-use Rattle.std.specs.Prelude.{ℕ, ◌+◌, ◌-◌, ◌/◌, ◌%◌, ◌≤◌, ◌≡◌, Bool, ◌&&◌, List, [], ◌∷◌, ◌++◌, leb, eqb, length}
+use Rattle.std.specs.Prelude.{ℕ, ◌+◌, ◌-◌, ◌/◌, ◌%◌, ◌≤◌, ◌≡◌, Bool, ◌&&◌, List, [], ◌∷◌, ◌++◌, leb, eqb, length, Result, Ok, Err}
 use Rattle.le.specs.Bytes.{part}
 use Rattle.refusal.specs.declared.Refusal.{Refusal}
-use Rattle.refusal.specs.declared.Verdict.{Verdict}
 use Rattle.refusal.specs.declared.Fault.TheVariants.{HeapItem}
-use Rattle.refusal.specs.Order.{◌at◌, Rule, rule, in_order, after}
-use Rattle.heap.specs.declared.Span.{Span}
-use Rattle.heap.specs.declared.Span.TheVariants.{Within, Refused}
+use Rattle.refusal.specs.Order.{Verdict, ◌at◌, Rule, rule, in_order, after}
 use Rattle.heap.specs.Shape.{map_offset, item_count, offset, shape_rules}
+use Rattle.heap.specs.declared.Span.{Span}
 
 -- "Item number: low 5 bits kind, next 11 index, high 16 block"
 unfoldable pub item_kind : ℕ → ℕ
@@ -60,8 +58,8 @@ unfoldable pub item_or : List ℕ → ℕ → List ℕ
 item_or block item = after (λ refusal. []) (item_test block item) (item_part block item)
 
 -- where the item starts and how long it is, or the test's refusal
-unfoldable pub item_span : List ℕ → ℕ → Span
-item_span block item = after Refused (item_test block item) (Within (item_start block item) (item_length block item))
+unfoldable pub item_span : List ℕ → ℕ → Result Span Refusal
+item_span block item = after Err (item_test block item) (Ok (record { start = (item_start block item); length = (item_length block item) }))
 
 -- where an item lies: behind the heap's front, before the map, and so inside the block
 pub record Lies (block : List ℕ) (item : ℕ) : Type 0 where

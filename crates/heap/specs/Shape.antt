@@ -2,9 +2,8 @@
 use Rattle.std.specs.Prelude.{ℕ, zero, suc, ◌+◌, ◌*◌, ◌≤◌, ◌≡◌, Bool, true, ◌&&◌, List, [], ◌∷◌, leb, eqb, length}
 use Rattle.le.specs.Bytes.{byte, field}
 use Rattle.refusal.specs.declared.Refusal.{Refusal}
-use Rattle.refusal.specs.declared.Verdict.{Verdict}
 use Rattle.refusal.specs.declared.Fault.TheVariants.{HeapShape}
-use Rattle.refusal.specs.Order.{◌at◌, Rule, rule, in_order}
+use Rattle.refusal.specs.Order.{Verdict, ◌at◌, Rule, rule, in_order}
 
 -- "Bytes: map offset 2, EC hex, client kind, user root 4, fill levels 4"
 unfoldable pub map_offset : List ℕ → ℕ

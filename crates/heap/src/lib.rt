@@ -115,7 +115,7 @@ pub fn test_heap(block: &[u8]) -> Verdict
     if !offsets_fit(block) {
         return wrong;
     }
-    Verdict::Accepted
+    Ok(())
 }
 
 // What the heap is used for.
@@ -155,13 +155,13 @@ pub fn test_item(block: &[u8], item: u32) -> Verdict
     ensures { result ≡ item_test block.now item }
 {
     let shape = test_heap(block);
-    let Verdict::Accepted = shape else {
+    let Ok(()) = shape else {
         return shape;
     };
     if !item_fits(block, item) {
         return refusal::refused_at(Fault::HeapItem, 0);
     }
-    Verdict::Accepted
+    Ok(())
 }
 
 // Where an item of this heap starts, and where it ends.
@@ -200,29 +200,29 @@ pub fn item_of<'a>(block: &'a [u8], item: u32) -> &'a [u8]
     ensures { result.now ≡ item_or block.now item }
 {
     let verdict = test_item(block, item);
-    let Verdict::Accepted = verdict else {
+    let Ok(()) = verdict else {
         return &block[0..0];
     };
     part_of(block, item)
 }
 
 // Where the item starts and how long it is, for callers that cannot be handed a part.
-pub fn find_item(block: &[u8], item: u32) -> Span
+pub fn find_item(block: &[u8], item: u32) -> Result<Span, Refusal>
     ensures { result ≡ item_span block.now item }
 {
     let verdict = test_item(block, item);
     match verdict {
-        Verdict::Refused(refusal) => Span::Refused(refusal),
-        Verdict::Accepted => span_of(block, item),
+        Err(refusal) => Err(refusal),
+        Ok(()) => span_of(block, item),
     }
 }
 
-fn span_of(block: &[u8], item: u32) -> Span
+fn span_of(block: &[u8], item: u32) -> Result<Span, Refusal>
     requires { Heap block.now × Numbered block.now item }
-    ensures { result ≡ Span.Within (item_start block.now item) (item_length block.now item) }
+    ensures { result ≡ Ok (record { start = (item_start block.now item); length = (item_length block.now item) }) }
 {
     let bounds = bounds_of(block, item);
     let start = bounds.start;
     let end = bounds.end;
-    Span::Within(start, end - start)
+    Ok(Span { start: start, length: end - start })
 }

@@ -1,17 +1,14 @@
 -- The records of an item, one at a time, and the children they name. Assumes nothing.
 use Prim.Native.Nat.{ℕ, zero, suc, ◌+◌, ◌*◌, ◌/◌, ◌≤◌, ◌<◌}
 use mathlib.Core.Path.{◌≡◌, refl, sym, ap, ◌∙◌}
-use mathlib.Core.Option.{some}
 use mathlib.Core.List.{List, [], ◌∷◌}
 use native.Mathlib.Nat.{div-mul-le_self}
 use native.Mathlib.Omega.{arith}
 use lib.ListN.{length}
 use Rattle.le.specs.Bytes.{part, field}
 use Rattle.le.proofs.FieldLaws.{part_part}
-use Rattle.keys.specs.declared.End.{End}
 use Rattle.keys.specs.declared.Range.{Range}
 use Rattle.keys.specs.declared.Shape.{Shape}
-use Rattle.keys.specs.declared.Seat.TheVariants.{At, Nowhere}
 use Rattle.keys.specs.declared.Sought.TheVariants.{Equal}
 use Rattle.keys.specs.Records.{key_of, key_at, keys_of, records, records_from, record_at, RecordsIn}
 use Rattle.keys.specs.Range.{range_at}
@@ -28,12 +25,12 @@ use Rattle.heap.specs.Shape.{Heap}
 use Rattle.heap.specs.Items.{Numbered, item_start, item_length, item_part}
 use Rattle.heap.proofs.ItemLaws.{item_lies}
 use Rattle.heaptree.specs.declared.Branch.{Branch}
-use Rattle.heaptree.specs.declared.FoundRecord.TheVariants as found
 use Rattle.heaptree.specs.declared.HeapTree.{HeapTree}
 use Rattle.heaptree.specs.Value.{FairTree, leaf_shape, index_shape, record_key, shape_at}
 use Rattle.heaptree.specs.Branches.{record_count, records_of, child_of, tree_on}
 use Rattle.heaptree.specs.Lookup.{Shows}
 use Rattle.heaptree.proofs.ShownLaws.{stands, nowhere}
+use Rattle.std.specs.Prelude.{Option, Some, None, Ok}
 
 -- as many records as the bytes hold lie in the bytes
 pub records_hold : (shape : Shape) (bytes : List ℕ) → shape.width ≤ shape.size → shape.width ≤ 8 → RecordsIn shape (record_count shape bytes) bytes
@@ -64,7 +61,7 @@ module _ (tree : HeapTree) (block : List ℕ) (heap : Heap block) (item : ℕ) (
   told = answer (with_key (record_key tree) key (records_of (leaf_shape tree) bytes)) 1
 
   abbrev sought : ℕ → Type 0
-  sought i = At i ≡ first_that Equal key (keys_of (leaf_shape tree) (record_count (leaf_shape tree) bytes) bytes)
+  sought i = Some i ≡ first_that Equal key (keys_of (leaf_shape tree) (record_count (leaf_shape tree) bytes) bytes)
 
   pub leaf_lies : (i : ℕ) → sought i → item_start block item + i * (tree.key + tree.entry) + (tree.key + tree.entry) ≤ length block
   leaf_lies i e =
@@ -80,17 +77,17 @@ module _ (tree : HeapTree) (block : List ℕ) (heap : Heap block) (item : ℕ) (
       record_is (leaf_shape tree) bytes i (tree.key + tree.entry) refl
       ∙ part_part block (item_start block item) (item_length block item) (i * (tree.key + tree.entry)) (tree.key + tree.entry) (omega (arith, lies.whole, inside))
 
-  pub leaf_at : (i : ℕ) → sought i → Shows tree block (found.At (item_start block item + i * (tree.key + tree.entry))) told
+  pub leaf_at : (i : ℕ) → sought i → Shows tree block (Ok (Some (item_start block item + i * (tree.key + tree.entry)))) told
   unfolding records_of
   leaf_at i e =
-      stands tree block _ 1 _ (leaf_lies i e) (record_found (leaf_shape tree) (record_count (leaf_shape tree) bytes) bytes Equal key i e ∙ ap some (same_part i e))
+      stands tree block _ 1 _ (leaf_lies i e) (record_found (leaf_shape tree) (record_count (leaf_shape tree) bytes) bytes Equal key i e ∙ ap Some (same_part i e))
 
-  pub leaf_none : Nowhere ≡ first_that Equal key (keys_of (leaf_shape tree) (record_count (leaf_shape tree) bytes) bytes) → Shows tree block found.Absent told
+  pub leaf_none : None ≡ first_that Equal key (keys_of (leaf_shape tree) (record_count (leaf_shape tree) bytes) bytes) → Shows tree block (Ok None) told
   unfolding records_of
   leaf_none e = nowhere tree block 1 _ (record_absent (leaf_shape tree) (record_count (leaf_shape tree) bytes) bytes Equal key e)
 
 -- the child of a record, read from the item's bytes
-pub child_is : (shape : Shape) → shape.width + 4 ≤ shape.size → (to : End) (n : ℕ) (bytes : List ℕ) (i item : ℕ) (range : Range)
+pub child_is : (shape : Shape) → shape.width + 4 ≤ shape.size → (to : Option ℕ) (n : ℕ) (bytes : List ℕ) (i item : ℕ) (range : Range)
     → item ≡ field bytes (i * shape.size + shape.width) 4 → range ≡ range_at shape n bytes i to
     → ◌≡◌ {A = Branch} (record { item = item; range = range }) (child_at (key_of shape) (child_of shape.width) to shape n bytes i)
 unfolding child_of
@@ -110,19 +107,19 @@ module _ (tree : HeapTree) (block : List ℕ) (branch : Branch) (key count : ℕ
   unfolding child_of
   ranged r e = refl
 
-  pub child_inside : (i : ℕ) → At i ≡ last_at_most key (keys_of (index_shape tree) count bytes) → i < count
+  pub child_inside : (i : ℕ) → Some i ≡ last_at_most key (keys_of (index_shape tree) count bytes) → i < count
   child_inside i e = chosen_inside (index_shape tree) count bytes key i e
 
-  pub child_none : Nowhere ≡ last_at_most key (keys_of (index_shape tree) count bytes)
+  pub child_none : None ≡ last_at_most key (keys_of (index_shape tree) count bytes)
       → (l : ℕ) → [] ≡ picked (tree_on tree block) Equal key (children (tree_on tree block) l branch)
   child_none e l =
       sym (ap (picked (tree_on tree block) Equal key) (kids_are l)
       ∙ chosen_none (record_key tree) (index_shape tree) (index_keyed tree) count bytes branch.range.to kid (λ (b : Branch). b.range) ranged key e)
 
-  pub child_chosen : (i : ℕ) → At i ≡ last_at_most key (keys_of (index_shape tree) count bytes)
+  pub child_chosen : (i : ℕ) → Some i ≡ last_at_most key (keys_of (index_shape tree) count bytes)
       → (l : ℕ) → child_at (key_of (index_shape tree)) kid branch.range.to (index_shape tree) count bytes i ∷ [] ≡ picked (tree_on tree block) Equal key (children (tree_on tree block) l branch)
   child_chosen i e l =
-      ap (λ (end : End). kid (record { from = key_at (index_shape tree) bytes i; to = end }) (record_at (index_shape tree) bytes i) ∷ [])
+      ap (λ (end : Option ℕ). kid (record { from = key_at (index_shape tree) bytes i; to = end }) (record_at (index_shape tree) bytes i) ∷ [])
       (end_same (key_of (index_shape tree)) (record_key tree) (index_keyed tree) branch.range.to (records_from (index_shape tree) count bytes (i + 1)))
       ∙ sym (ap (picked (tree_on tree block) Equal key) (kids_are l)
       ∙ chosen_some (record_key tree) (index_shape tree) (index_keyed tree) count bytes branch.range.to kid (λ (b : Branch). b.range) ranged key i e)

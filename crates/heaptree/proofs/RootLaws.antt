@@ -10,7 +10,6 @@ use borrow.Author.Tests.{eqb-true, leb-true, eq-eqb, ne_eqb, le-leb}
 use Rattle.laws.proofs.Tests.{and_both, both_and}
 use Rattle.le.specs.Bytes.{byte}
 use Rattle.refusal.specs.declared.Refusal.{Refusal}
-use Rattle.refusal.specs.declared.Verdict.TheVariants.{Accepted, Refused}
 use Rattle.refusal.specs.Order.{in_order, AllHold, none, both, FirstFault, here, later}
 use Rattle.refusal.proofs.OrderLaws.{accepted_exactly, refused_exactly}
 use Rattle.heap.specs.Items.{item_fits, bad_item, item_part}
@@ -18,6 +17,7 @@ use Rattle.heap.proofs.ItemLaws.{number_exactly}
 use Rattle.heaptree.specs.declared.HeapTree.{HeapTree}
 use Rattle.heaptree.specs.Value.{bad_tree}
 use Rattle.heaptree.specs.Root.{root_fits, root_rules, Rooted}
+use Rattle.std.specs.Prelude.{Ok, Err}
 
 -- the record's bytes
 module _ (tree : HeapTree) (bytes : List ℕ) where
@@ -57,23 +57,23 @@ module _ (tree : HeapTree) (block : List ℕ) (root : ℕ) where
       none)
 
   -- the record is accepted exactly when each rule holds
-  pub root_exactly : (in_order (root_rules tree block root) ≡ Accepted) ↔ Rooted tree block root
+  pub root_exactly : (in_order (root_rules tree block root) ≡ Ok tt) ↔ Rooted tree block root
   root_exactly = (λ e. facts ((accepted_exactly (root_rules tree block root)).0 e), λ r. (accepted_exactly (root_rules tree block root)).1 (tests r))
 
   -- and refused exactly with the first rule that is broken
-  pub root_refused_exactly : (r : Refusal) → (in_order (root_rules tree block root) ≡ Refused r) ↔ FirstFault (root_rules tree block root) r
+  pub root_refused_exactly : (r : Refusal) → (in_order (root_rules tree block root) ≡ Err r) ↔ FirstFault (root_rules tree block root) r
   root_refused_exactly r = refused_exactly (root_rules tree block root) r
 
   -- the rules, one at a time
-  pub wrong_number : item_fits block root ≡ false → in_order (root_rules tree block root) ≡ Refused bad_item
+  pub wrong_number : item_fits block root ≡ false → in_order (root_rules tree block root) ≡ Err bad_item
   unfolding root_rules
   wrong_number n = (refused_exactly (root_rules tree block root) bad_item).1 (here n)
 
   module _ (number : item_fits block root ≡ true) where
-    pub wrong_record : root_fits tree (item_part block root) ≡ false → in_order (root_rules tree block root) ≡ Refused (bad_tree tree)
+    pub wrong_record : root_fits tree (item_part block root) ≡ false → in_order (root_rules tree block root) ≡ Err (bad_tree tree)
     unfolding root_rules
     wrong_record f = (refused_exactly (root_rules tree block root) (bad_tree tree)).1 (later number (here f))
 
-    pub right_record : root_fits tree (item_part block root) ≡ true → in_order (root_rules tree block root) ≡ Accepted
+    pub right_record : root_fits tree (item_part block root) ≡ true → in_order (root_rules tree block root) ≡ Ok tt
     unfolding root_rules
     right_record f = (accepted_exactly (root_rules tree block root)).1 (both number (both f none))

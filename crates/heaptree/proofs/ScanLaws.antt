@@ -3,7 +3,6 @@ use Prim.Native.Nat.{ℕ, ◌%◌}
 use mathlib.Core.Path.{◌≡◌, refl, sym, ap, ◌∙◌}
 use mathlib.Core.Bool.{Bool, true, false, ◌&&◌}
 use mathlib.Core.Logic.{◌↔◌}
-use mathlib.Core.Option.{Option, none, some}
 use mathlib.Core.List.{List, [], map}
 use native.Mathlib.Omega.{arith}
 use lib.Dec.{leb, eqb}
@@ -32,6 +31,7 @@ use Rattle.heaptree.proofs.RecordLaws.{keyed}
 use Rattle.heaptree.proofs.SoundLaws.{tree_accepted}
 use Rattle.heaptree.proofs.ShownLaws.{none_is}
 use Rattle.heaptree.proofs.StepLaws.{branch_fits}
+use Rattle.std.specs.Prelude.{Option, Some, None}
 
 -- a tree on a heap is a search tree: the keys of an accepted item ascend in its range
 pub sorted : (tree : HeapTree) (block : List ℕ) → Sorted (tree_on tree block)
@@ -48,10 +48,10 @@ sorted tree block =
     }
 
 -- an answer says one thing
-says_none : (o : Option (List ℕ)) (m n : ℕ) → answer o m ≡ answer none n → o ≡ none
+says_none : (o : Option (List ℕ)) (m n : ℕ) → answer o m ≡ answer None n → o ≡ None
 unfolding answer
-says_none none m n e = refl
-says_none (some x) m n e = let clash : ◌≡◌ {A = ℕ} 0 1 = cc in absurd (omega arith)
+says_none None m n e = refl
+says_none (Some x) m n e = let clash : ◌≡◌ {A = ℕ} 0 1 = cc in absurd (omega arith)
 
 -- the root item, if there is one
 module _ (tree : HeapTree) (block : List ℕ) (root : ℕ) (sound : HeapTreeSound tree block root) where
@@ -71,7 +71,7 @@ module _ (tree : HeapTree) (block : List ℕ) (root : ℕ) (sound : HeapTreeSoun
   scan_answers : (key : ℕ) → Says (from_root tree block root key) (with_key (record_key tree) key (leaf_records tree block root))
   scan_answers key = answers_by key (eqb (root_item block root) 0) refl
 
-  scan_absent : (key : ℕ) → Says (from_root tree block root key) none ↔ Missing key (map (record_key tree) (leaf_records tree block root))
+  scan_absent : (key : ℕ) → Says (from_root tree block root key) None ↔ Missing key (map (record_key tree) (leaf_records tree block root))
   scan_absent key = (
     (λ s. (missing_exactly (record_key tree) key (leaf_records tree block root)).0 (says_none _ _ _ (sym (scan_answers key).is ∙ s.is))),
     (λ m. record { count = (scan_answers key).count; is = (scan_answers key).is ∙ ap (λ o. answer o (scan_answers key).count) ((missing_exactly (record_key tree) key (leaf_records tree block root)).1 m) }),

@@ -1,6 +1,5 @@
 -- The plain scan of a tree on a heap, and what a lookup in a sound one answers. Assumes nothing: these are definitions.
-use Rattle.std.specs.Prelude.{ℕ, cond, ◌↔◌, List, [], map, eqb}
-use Rattle.std.proofs.Math.Option.{none}
+use Rattle.std.specs.Prelude.{ℕ, cond, ◌↔◌, List, [], map, eqb, None}
 use Rattle.keys.specs.Plain.{Ascending, Missing}
 use Rattle.keys.specs.Search.{with_key}
 use Rattle.search.specs.SearchTree.{leaves}
@@ -24,7 +23,7 @@ module _ (tree : HeapTree) (block : List ℕ) (root : ℕ) where
     -- that is the only one with the key, since the keys of the leaf records strictly ascend
     pub ascending : Ascending (map (record_key tree) leaf_records)
     -- none exactly when no leaf record has the key
-    pub absent_iff : (key : ℕ) → Says (from_root tree block root key) none ↔ Missing key (map (record_key tree) leaf_records)
+    pub absent_iff : (key : ℕ) → Says (from_root tree block root key) None ↔ Missing key (map (record_key tree) leaf_records)
 
 -- a sound tree of any kind is answered as by the plain scan
 abbrev pub TreeScanHolds : Type 0

@@ -34,27 +34,6 @@ pub struct Branch {
     pub range: Range,
 }
 
-// How many records an item holds that has passed its tests; or the refusal.
-#[derive(Clone, Copy)]
-pub enum Held {
-    Records(usize),
-    Refused(Refusal),
-}
-
-#[derive(Clone, Copy)]
-pub enum Chosen {
-    Child(Branch),
-    Nobody,
-}
-
-// Where in the block the leaf record with the key starts.
-#[derive(Clone, Copy)]
-pub enum FoundRecord {
-    At(usize),
-    Absent,
-    Refused(Refusal),
-}
-
 fn root_fits(tree: HeapTree, root: &[u8]) -> bool
     ensures { result ≡ root_fits tree root.now }
 {
@@ -81,7 +60,7 @@ pub fn check_root(block: &[u8], tree: HeapTree, root: u32) -> Verdict
     if !root_fits(tree, heap::part_of(block, root)) {
         return refusal::refused_at(fault, 0);
     }
-    Verdict::Accepted
+    Ok(())
 }
 
 fn shape_at(tree: HeapTree, levels: usize) -> Shape
@@ -135,10 +114,10 @@ fn records_fit(bytes: &[u8], shape: Shape, count: usize, range: Range) -> bool
     (1 <= bytes.len()) & nothing_left(bytes.len(), size, count) & keys::is_climbing(order)
 }
 
-fn refused_held(fault: Fault) -> Held
-    ensures { result ≡ Held.Refused (fault at 0) }
+fn refused_held(fault: Fault) -> Result<usize, Refusal>
+    ensures { result ≡ Err (fault at 0) }
 {
-    Held::Refused(Refusal {
+    Err(Refusal {
         fault,
         place: 0,
         more: 0,
@@ -146,7 +125,7 @@ fn refused_held(fault: Fault) -> Held
 }
 
 // An item of the tree: 19 for its number, then the tree's fault for its shape.
-fn check_branch(block: &[u8], tree: HeapTree, levels: usize, branch: Branch) -> Held
+fn check_branch(block: &[u8], tree: HeapTree, levels: usize, branch: Branch) -> Result<usize, Refusal>
     requires { Heap block.now × FairTree tree }
     ensures { result ≡ held_in tree block.now levels branch }
 {
@@ -163,11 +142,11 @@ fn check_branch(block: &[u8], tree: HeapTree, levels: usize, branch: Branch) -> 
     if !records_fit(records, shape, count, range) {
         return refused_held(fault);
     }
-    Held::Records(count)
+    Ok(count)
 }
 
 // Where the leaf record with the key stands, in an accepted leaf item of so many records.
-fn find_in_leaf(block: &[u8], tree: HeapTree, key: u64, item: u32, count: usize) -> FoundRecord
+fn find_in_leaf(block: &[u8], tree: HeapTree, key: u64, item: u32, count: usize) -> Result<Option<usize>, Refusal>
     requires { Heap block.now × Numbered block.now item × FairTree tree × (count ≡ record_count (leaf_shape tree) (item_part block.now item)) }
     ensures { Shows tree block.now result (answer (with_key (record_key tree) key (records_of (leaf_shape tree) (item_part block.now item))) 1) }
 {
@@ -180,14 +159,14 @@ fn find_in_leaf(block: &[u8], tree: HeapTree, key: u64, item: u32, count: usize)
         reserved: false,
     };
     let seat = keys::first_that(records, shape, count, Sought::Equal, key);
-    let Seat::At(i) = seat else {
-        return FoundRecord::Absent;
+    let Some(i) = seat else {
+        return Ok(None);
     };
-    FoundRecord::At(heap::item_start(block, item) + i * size)
+    Ok(Some(heap::item_start(block, item) + i * size))
 }
 
 // The child of the i-th of so many index records.
-fn child_at(records: &[u8], shape: Shape, count: usize, i: usize, to: End) -> Branch
+fn child_at(records: &[u8], shape: Shape, count: usize, i: usize, to: Option<u64>) -> Branch
     requires { RecordsIn shape count records.now × (shape.width + 4 ≤ shape.size) × (i < count) }
     ensures { result ≡ child_at (key_of shape) (child_of shape.width) to shape count records.now i }
 {
@@ -199,7 +178,7 @@ fn child_at(records: &[u8], shape: Shape, count: usize, i: usize, to: End) -> Br
 }
 
 // The child of an accepted index item of so many records under which the key must stand.
-fn choose_child(block: &[u8], tree: HeapTree, key: u64, branch: Branch, count: usize) -> Chosen
+fn choose_child(block: &[u8], tree: HeapTree, key: u64, branch: Branch, count: usize) -> Option<Branch>
     requires { Heap block.now × Numbered block.now branch.item × FairTree tree × (count ≡ record_count (index_shape tree) (item_part block.now branch.item)) }
     ensures { ChosenIs tree block.now key branch result }
 {
@@ -215,21 +194,21 @@ fn choose_child(block: &[u8], tree: HeapTree, key: u64, branch: Branch, count: u
         reserved: false,
     };
     let seat = keys::last_at_most(records, shape, count, key);
-    let Seat::At(i) = seat else {
-        return Chosen::Nobody;
+    let Some(i) = seat else {
+        return None;
     };
-    Chosen::Child(child_at(records, shape, count, i, to))
+    Some(child_at(records, shape, count, i, to))
 }
 
 // The descent from an item so many index levels above the leaves.
-fn find_under(block: &[u8], tree: HeapTree, key: u64, levels: usize, branch: Branch) -> FoundRecord
+fn find_under(block: &[u8], tree: HeapTree, key: u64, levels: usize, branch: Branch) -> Result<Option<usize>, Refusal>
     requires { Heap block.now × FairTree tree }
     ensures { Shows tree block.now result (descend (tree_on tree block.now) Sought.Equal key levels branch) }
 {
     let count = match check_branch(block, tree, levels, branch) {
-        Held::Records(count) => count,
-        Held::Refused(refusal) => {
-            return FoundRecord::Refused(refusal);
+        Ok(count) => count,
+        Err(refusal) => {
+            return Err(refusal);
         }
     };
     let item = branch.item;
@@ -237,26 +216,26 @@ fn find_under(block: &[u8], tree: HeapTree, key: u64, levels: usize, branch: Bra
         return find_in_leaf(block, tree, key, item, count);
     }
     let chosen = choose_child(block, tree, key, branch, count);
-    let Chosen::Child(child) = chosen else {
-        return FoundRecord::Absent;
+    let Some(child) = chosen else {
+        return Ok(None);
     };
     find_under(block, tree, key, levels - 1, child)
 }
 
 // The leaf record with the key, of the tree that starts from an accepted root record.
-pub fn find_from(block: &[u8], tree: HeapTree, root: u32, key: u64) -> FoundRecord
+pub fn find_from(block: &[u8], tree: HeapTree, root: u32, key: u64) -> Result<Option<usize>, Refusal>
     requires { Heap block.now × FairTree tree × Rooted tree block.now root }
     ensures { Shows tree block.now result (from_root tree block.now root key) }
 {
     let record = heap::part_of(block, root);
     let item = le::field4(record, 4);
     if item == 0 {
-        return FoundRecord::Absent;
+        return Ok(None);
     }
     let levels = le::byte_at(record, 3) as usize;
     let range = Range {
         from: 0,
-        to: End::Open,
+        to: None,
     };
     find_under(block, tree, key, levels, Branch { item, range })
 }

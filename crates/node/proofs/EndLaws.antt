@@ -15,13 +15,9 @@ use Rattle.keys.specs.Search.{joined}
 use Rattle.header.specs.Header.{header_rules}
 use Rattle.header.specs.End.{AlikeToEnd}
 use Rattle.tree.specs.declared.Listed.{Listed}
-use Rattle.tree.specs.declared.FoundNode.{FoundNode}
-use Rattle.tree.specs.declared.FoundNode.TheVariants as node
 use Rattle.tree.specs.Lookup.{search_rules}
 use Rattle.tree.specs.Answers.{node_of}
 use Rattle.tree.proofs.EndLaws.{node_alike, search_first}
-use Rattle.block.specs.declared.Checked.{Checked}
-use Rattle.block.specs.declared.Checked.TheVariants as checked
 use Rattle.block.specs.Block.{checked_block, internal, block_bytes}
 use Rattle.block.proofs.EndLaws.{checked_alike, stored_same, bytes_same}
 use Rattle.edition.specs.declared.Edition.{Edition}
@@ -30,6 +26,10 @@ use Rattle.node.specs.Content.{Content, bytes, refused, numbers_in, shape_fits, 
 use Rattle.node.specs.Named.{ListedAs, none, one}
 use Rattle.node.specs.Tried.{content_rules, data_rules}
 use Rattle.node.proofs.Kids.{listing_of}
+use Rattle.std.specs.Prelude.{Result, Ok, Err}
+use Rattle.tree.specs.declared.Found.{Found}
+use Rattle.tree.specs.declared.Node.{Node}
+use Rattle.tree.specs.declared.Found.TheVariants.{Absent, Entry}
 
 module _ (E : Edition) (fair : FairEdition E) (first second : List ℕ) (alike : AlikeToEnd first second) where
   kids_alike : (ns : List ℕ) → kids_of E first ns ≡ kids_of E second ns
@@ -57,7 +57,7 @@ module _ (E : Edition) (fair : FairEdition E) (first second : List ℕ) (alike :
   unfolding tree_content
   tree_alike offset g = ap (after refused (demand (shape_fits E.tree g) (DataTree at offset))) (gathered_alike offset g (numbers_in E.tree g))
 
-  block_alike : (number : ℕ) (b : Listed) → checked_block E first number ≡ checked.Block b → block_content E first b ≡ block_content E second b
+  block_alike : (number : ℕ) (b : Listed) → checked_block E first number ≡ Ok b → block_content E first b ≡ block_content E second b
   unfolding block_content
   block_alike number b e =
       ap₂ (λ (x y : Content). cond (internal b.block) x y)
@@ -68,19 +68,19 @@ module _ (E : Edition) (fair : FairEdition E) (first second : List ℕ) (alike :
   unfolding checked_content
   passed_alike number = by (checked_block E first number) refl ∙ ap (checked_content E second) (checked_alike E fair first second alike number)
     where
-      by : (c : Checked) → checked_block E first number ≡ c → checked_content E first c ≡ checked_content E second c
-      by (checked.Block b) e = block_alike number b e
-      by (checked.Refused r) e = refl
+      by : (c : Result Listed Refusal) → checked_block E first number ≡ c → checked_content E first c ≡ checked_content E second c
+      by (Ok b) e = block_alike number b e
+      by (Err r) e = refl
 
   data_alike : (number : ℕ) → data_of E first number ≡ data_of E second number
   unfolding data_of
   data_alike number = ap (cond (eqb (cleared number) 0) (bytes [])) (passed_alike number)
 
-  found_alike : (f : FoundNode) → found_content E first f ≡ found_content E second f
+  found_alike : (f : Result (Found Node) Refusal) → found_content E first f ≡ found_content E second f
   unfolding found_content
-  found_alike (node.Found n pages) = data_alike n.block
-  found_alike (node.Absent pages) = refl
-  found_alike (node.Refused r) = refl
+  found_alike (Ok (Entry n pages)) = data_alike n.block
+  found_alike (Ok (Absent pages)) = refl
+  found_alike (Err r) = refl
 
   pub content_alike : (number : ℕ) → node_content E first number ≡ node_content E second number
   unfolding node_content

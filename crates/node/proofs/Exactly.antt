@@ -16,17 +16,16 @@ use Rattle.keys.specs.Records.{cleared}
 use Rattle.keys.specs.Search.{joined}
 use Rattle.tree.specs.declared.Listed.{Listed}
 use Rattle.tree.specs.declared.Node.{Node}
-use Rattle.tree.specs.declared.FoundNode.{FoundNode}
-use Rattle.tree.specs.declared.FoundNode.TheVariants as node
 use Rattle.tree.specs.Answers.{node_of}
-use Rattle.block.specs.declared.Checked.{Checked}
-use Rattle.block.specs.declared.Checked.TheVariants as checked
 use Rattle.block.specs.Block.{checked_block, internal, block_bytes}
 use Rattle.edition.specs.declared.Edition.{Edition}
 use Rattle.node.specs.Content.{Content, bytes, absent, refused, numbers_in, none_internal, shape_fits, Kids, all, fault, kids_of, total, tree_content, block_content, data_of, node_content}
 use Rattle.node.specs.Named.{DataTreeSound, Hands, own, children, Named, nothing, something}
 use Rattle.node.proofs.Kids.{listing_of, of_listing}
 use Rattle.node.proofs.Outcomes.{shape_of, tree_shapeless, tree_fault, tree_other_sum, tree_bytes, block_tree, block_own, data_none, data_refused, data_block, node_found, node_absent, node_refused}
+use Rattle.std.specs.Prelude.{Result, Ok, Err}
+use Rattle.tree.specs.declared.Found.{Found}
+use Rattle.tree.specs.declared.Found.TheVariants.{Absent, Entry}
 
 -- a refusal is no data, nor is absent
 no_bytes : (c : Content) (r : Refusal) (s : List ℕ) → c ≡ refused r → c ≡ bytes s → ⊥
@@ -128,20 +127,20 @@ module _ (E : Edition) (image : List ℕ) (b : Listed) where
 named_of : (E : Edition) (image : List ℕ) (number : ℕ) (s : List ℕ) → node_content E image number ≡ bytes s → Named E image number s
 named_of E image number s e = by_node (node_of E.nodes image number) refl
   where
-    by_checked : (n : Node) (pages : ℕ) → node_of E.nodes image number ≡ node.Found n pages → (cleared n.block ≡ 0 → ⊥) → data_of E image n.block ≡ bytes s
-        → (c : Checked) → checked_block E image n.block ≡ c → Named E image number s
-    by_checked n pages f z d (checked.Block b) k = something f z k (hands_of E image b s (sym (data_block E image n.block b z k) ∙ d))
-    by_checked n pages f z d (checked.Refused r) k = absurd (no_bytes _ _ s (data_refused E image n.block r z k) d)
+    by_checked : (n : Node) (pages : ℕ) → node_of E.nodes image number ≡ Ok (Entry n pages) → (cleared n.block ≡ 0 → ⊥) → data_of E image n.block ≡ bytes s
+        → (c : Result Listed Refusal) → checked_block E image n.block ≡ c → Named E image number s
+    by_checked n pages f z d (Ok b) k = something f z k (hands_of E image b s (sym (data_block E image n.block b z k) ∙ d))
+    by_checked n pages f z d (Err r) k = absurd (no_bytes _ _ s (data_refused E image n.block r z k) d)
 
-    by_number : (n : Node) (pages : ℕ) → node_of E.nodes image number ≡ node.Found n pages → data_of E image n.block ≡ bytes s → (z : Bool) → eqb (cleared n.block) 0 ≡ z → Named E image number s
+    by_number : (n : Node) (pages : ℕ) → node_of E.nodes image number ≡ Ok (Entry n pages) → data_of E image n.block ≡ bytes s → (z : Bool) → eqb (cleared n.block) 0 ≡ z → Named E image number s
     by_number n pages f d true z =
         subst (Named E image number) (same_bytes _ [] s (data_none E image n.block (eqb-true _ 0 z)) d) (nothing f (eqb-true _ 0 z))
     by_number n pages f d false z = by_checked n pages f (eqb-false _ 0 z) d (checked_block E image n.block) refl
 
-    by_node : (f : FoundNode) → node_of E.nodes image number ≡ f → Named E image number s
-    by_node (node.Found n pages) f = by_number n pages f (sym (node_found E image number n pages f) ∙ e) (eqb (cleared n.block) 0) refl
-    by_node (node.Absent pages) f = absurd (not_absent _ s (node_absent E image number pages f) e)
-    by_node (node.Refused r) f = absurd (no_bytes _ r s (node_refused E image number r f) e)
+    by_node : (f : Result (Found Node) Refusal) → node_of E.nodes image number ≡ f → Named E image number s
+    by_node (Ok (Entry n pages)) f = by_number n pages f (sym (node_found E image number n pages f) ∙ e) (eqb (cleared n.block) 0) refl
+    by_node (Ok (Absent pages)) f = absurd (not_absent _ s (node_absent E image number pages f) e)
+    by_node (Err r) f = absurd (no_bytes _ r s (node_refused E image number r f) e)
 
 of_named : (E : Edition) (image : List ℕ) (number : ℕ) (s : List ℕ) → Named E image number s → node_content E image number ≡ bytes s
 of_named E image number s (nothing {n} {pages} f z) = node_found E image number n pages f ∙ data_none E image n.block z

@@ -10,19 +10,20 @@ use Rattle.refusal.specs.declared.Refusal.{Refusal}
 use Rattle.refusal.specs.Order.{Rule}
 use Rattle.keys.specs.declared.Sought.TheVariants.{Equal}
 use Rattle.keys.specs.Records.{cleared}
-use Rattle.tree.specs.declared.FoundNode.{FoundNode}
-use Rattle.tree.specs.declared.FoundNode.TheVariants as node
 use Rattle.tree.specs.Answers.{node_of}
 use Rattle.tree.specs.KeyFaults.{KeyFault}
 use Rattle.tree.proofs.KeyFaults.{Quiet, KeysTell, quiet_tell, append_tell, joined_tell, search_tells}
-use Rattle.block.specs.declared.Checked.{Checked}
-use Rattle.block.specs.declared.Checked.TheVariants as checked
 use Rattle.block.specs.Block.{checked_block, internal}
 use Rattle.block.specs.Tried.{test_rules}
 use Rattle.block.proofs.KeyFaults.{test_tells}
 use Rattle.edition.specs.declared.Edition.{Edition}
 use Rattle.node.specs.Content.{Content, bytes, absent, refused, numbers_in, Kids, all, fault, kids_of, node_content}
 use Rattle.node.specs.Tried.{sum_rules, data_tree_rules, passed_rules, data_block_rules, found_rules, content_rules, buffer_rules, data_rules}
+use Rattle.std.specs.Prelude.{Result, Ok, Err}
+use Rattle.tree.specs.declared.Found.{Found}
+use Rattle.tree.specs.declared.Node.{Node}
+use Rattle.tree.specs.declared.Listed.{Listed}
+use Rattle.tree.specs.declared.Found.TheVariants.{Absent, Entry}
 
 module _ (E : Edition) (image : List ℕ) where
   -- of either tree
@@ -57,20 +58,20 @@ module _ (E : Edition) (image : List ℕ) where
       append_tell EitherTree (_ ∷ []) _ (quiet_tell EitherTree (_ ∷ []) (refl, tt))
       (append_tell EitherTree _ _ (joined_tell EitherTree (test_rules E image) (numbers_in E.tree g) tested_tell) (quiet_tell EitherTree _ (sum_quiet offset g (kids_of E image (numbers_in E.tree g)))))
 
-  passed_tell : (found : Checked) → KeysTell EitherTree (passed_rules E image found)
+  passed_tell : (found : Result Listed Refusal) → KeysTell EitherTree (passed_rules E image found)
   unfolding passed_rules
-  passed_tell (checked.Block b) = cond_tell (internal b.block) _ [] (tree_tell b.offset (part image b.offset b.size)) none_tell
-  passed_tell (checked.Refused r) = none_tell
+  passed_tell (Ok b) = cond_tell (internal b.block) _ [] (tree_tell b.offset (part image b.offset b.size)) none_tell
+  passed_tell (Err r) = none_tell
 
   block_tell : (number : ℕ) → KeysTell EitherTree (data_block_rules E image number)
   unfolding data_block_rules
   block_tell number = cond_tell (eqb (cleared number) 0) [] _ none_tell (append_tell EitherTree _ _ (tested_tell number) (passed_tell (checked_block E image number)))
 
-  found_tell : (found : FoundNode) → KeysTell EitherTree (found_rules E image found)
+  found_tell : (found : Result (Found Node) Refusal) → KeysTell EitherTree (found_rules E image found)
   unfolding found_rules
-  found_tell (node.Found n pages) = block_tell n.block
-  found_tell (node.Absent pages) = none_tell
-  found_tell (node.Refused r) = none_tell
+  found_tell (Ok (Entry n pages)) = block_tell n.block
+  found_tell (Ok (Absent pages)) = none_tell
+  found_tell (Err r) = none_tell
 
   pub data_tells : (number space : ℕ) → KeysTell EitherTree (data_rules E image number space)
   unfolding data_rules content_rules

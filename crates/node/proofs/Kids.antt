@@ -9,61 +9,58 @@ use Rattle.refusal.specs.declared.Refusal.{Refusal}
 use Rattle.keys.specs.Search.{joined}
 use Rattle.keys.proofs.SearchLaws.{joined_nil, joined_more}
 use Rattle.tree.specs.declared.Listed.{Listed}
-use Rattle.block.specs.declared.Checked.{Checked}
-use Rattle.block.specs.declared.Checked.TheVariants as checked
 use Rattle.block.specs.Block.{checked_block, block_bytes}
 use Rattle.block.proofs.BlockLaws.{checked_inside, bytes_length}
 use Rattle.edition.specs.declared.Edition.{Edition}
-use Rattle.node.specs.declared.Measured.{Measured}
-use Rattle.node.specs.declared.Measured.TheVariants as measured
 use Rattle.node.specs.Content.{Kids, all, fault, and_kids, kids_of, total}
 use Rattle.node.specs.Steps.{measured_in, refused_in, AllListed, bytes_in, bytes_at}
 use Rattle.node.specs.Named.{ListedAs, none, one}
+use Rattle.std.specs.Prelude.{Result, Ok, Err}
 
 -- a sum to which so much is added; a refusal stays
-pub add_to : ℕ → Measured → Measured
-add_to n (measured.Sum m) = measured.Sum (n + m)
-add_to n (measured.Refused r) = measured.Refused r
+pub add_to : ℕ → Result ℕ Refusal → Result ℕ Refusal
+add_to n (Ok m) = Ok (n + m)
+add_to n (Err r) = Err r
 
-pub add_none : (m : Measured) → add_to 0 m ≡ m
+pub add_none : (m : Result ℕ Refusal) → add_to 0 m ≡ m
 unfolding add_to
-add_none (measured.Sum m) = ap measured.Sum (zero-add m)
-add_none (measured.Refused r) = refl
+add_none (Ok m) = ap Ok (zero-add m)
+add_none (Err r) = refl
 
-add_add : (a b : ℕ) (m : Measured) → add_to (a + b) m ≡ add_to a (add_to b m)
+add_add : (a b : ℕ) (m : Result ℕ Refusal) → add_to (a + b) m ≡ add_to a (add_to b m)
 unfolding add_to
-add_add a b (measured.Sum m) = ap measured.Sum (add_assoc a b m)
-add_add a b (measured.Refused r) = refl
+add_add a b (Ok m) = ap Ok (add_assoc a b m)
+add_add a b (Err r) = refl
 
-sum_kids : (b : Listed) (k : Kids) → measured_in (and_kids (checked.Block b) k) ≡ add_to b.size (measured_in k)
+sum_kids : (b : Listed) (k : Kids) → measured_in (and_kids (Ok b) k) ≡ add_to b.size (measured_in k)
 unfolding measured_in and_kids add_to total
 sum_kids b (all bs) = refl
 sum_kids b (fault r) = refl
 
 module _ (E : Edition) (image : List ℕ) (n : ℕ) (ns : List ℕ) (sum : ℕ) where
-  pub measure_on : (b : Listed) → checked_block E image n ≡ checked.Block b
+  pub measure_on : (b : Listed) → checked_block E image n ≡ Ok b
       → add_to sum (measured_in (kids_of E image (n ∷ ns))) ≡ add_to (sum + b.size) (measured_in (kids_of E image ns))
   unfolding kids_of
   measure_on b e =
-      ap (λ (c : Checked). add_to sum (measured_in (and_kids c (kids_of E image ns)))) e
+      ap (λ (c : Result Listed Refusal). add_to sum (measured_in (and_kids c (kids_of E image ns)))) e
       ∙ ap (add_to sum) (sum_kids b (kids_of E image ns)) ∙ sym (add_add sum b.size (measured_in (kids_of E image ns)))
 
-  pub measure_ends : (c : Checked) (r : Refusal) → c ≡ checked_block E image n → c ≡ checked.Refused r
+  pub measure_ends : (c : Result Listed Refusal) (r : Refusal) → c ≡ checked_block E image n → c ≡ Err r
       → refused_in c ≡ add_to sum (measured_in (kids_of E image (n ∷ ns)))
   unfolding kids_of and_kids measured_in add_to refused_in
-  measure_ends c r e q = ap refused_in q ∙ sym (ap (λ (x : Checked). add_to sum (measured_in (and_kids x (kids_of E image ns)))) (sym e ∙ q))
+  measure_ends c r e q = ap refused_in q ∙ sym (ap (λ (x : Result Listed Refusal). add_to sum (measured_in (and_kids x (kids_of E image ns)))) (sym e ∙ q))
 
-pub measure_done : (E : Edition) (image ns : List ℕ) (sum : ℕ) → ns ≡ [] → measured.Sum sum ≡ add_to sum (measured_in (kids_of E image ns))
+pub measure_done : (E : Edition) (image ns : List ℕ) (sum : ℕ) → ns ≡ [] → Ok sum ≡ add_to sum (measured_in (kids_of E image ns))
 unfolding kids_of measured_in add_to total
-measure_done E image ns sum e = sym (ap (λ (xs : List ℕ). add_to sum (measured_in (kids_of E image xs))) e ∙ ap measured.Sum (add-zero sum))
+measure_done E image ns sum e = sym (ap (λ (xs : List ℕ). add_to sum (measured_in (kids_of E image xs))) e ∙ ap Ok (add-zero sum))
 
 -- where the children come to a list, each number is listed as the block beside it
-and_kids_lem : (c : Checked) (k : Kids) (P : Kids → Type 0) → ((r : Refusal) → P (fault r))
-    → ((b : Listed) (bs : List Listed) → c ≡ checked.Block b → k ≡ all bs → P (all (b ∷ bs))) → P (and_kids c k)
+and_kids_lem : (c : Result Listed Refusal) (k : Kids) (P : Kids → Type 0) → ((r : Refusal) → P (fault r))
+    → ((b : Listed) (bs : List Listed) → c ≡ Ok b → k ≡ all bs → P (all (b ∷ bs))) → P (and_kids c k)
 unfolding and_kids
-and_kids_lem (checked.Block b) (all bs) P f g = g b bs refl refl
-and_kids_lem (checked.Block b) (fault r) P f g = f r
-and_kids_lem (checked.Refused r) k P f g = f r
+and_kids_lem (Ok b) (all bs) P f g = g b bs refl refl
+and_kids_lem (Ok b) (fault r) P f g = f r
+and_kids_lem (Err r) k P f g = f r
 
 -- what a list of children that are all there says
 pub Says : Edition → List ℕ → List ℕ → Kids → Type 0
@@ -95,7 +92,7 @@ all_listed E image [] (b ∷ bs) h = elim h [ ]
 all_listed E image (n ∷ ns) [] h = elim h [ ]
 
 -- the bytes under the numbers are those of the blocks, and as many as the sum of sizes
-pub bytes_here : (E : Edition) (image : List ℕ) (n : ℕ) (b : Listed) → checked_block E image n ≡ checked.Block b → bytes_at E image n ≡ block_bytes image b
+pub bytes_here : (E : Edition) (image : List ℕ) (n : ℕ) (b : Listed) → checked_block E image n ≡ Ok b → bytes_at E image n ≡ block_bytes image b
 unfolding bytes_at bytes_in
 bytes_here E image n b e = ap (bytes_in image) e
 
@@ -121,18 +118,18 @@ pub kids_in : Kids → List Listed
 kids_in (all bs) = bs
 kids_in (fault r) = []
 
-pub sum_of : (k : Kids) (s : ℕ) → measured_in k ≡ measured.Sum s → (k ≡ all (kids_in k)) × (total (kids_in k) ≡ s)
+pub sum_of : (k : Kids) (s : ℕ) → measured_in k ≡ Ok s → (k ≡ all (kids_in k)) × (total (kids_in k) ≡ s)
 unfolding measured_in kids_in
 sum_of (all bs) s e = (refl, unsum e)
   where
-    unsum : measured.Sum (total bs) ≡ measured.Sum s → total bs ≡ s
+    unsum : Ok (total bs) ≡ Ok s → total bs ≡ s
     unsum p = cc
 sum_of (fault r) s e = let clash : ◌≡◌ {A = ℕ} 0 1 = cc in absurd (omega arith)
 
-pub fault_of : (k : Kids) (r : Refusal) → measured_in k ≡ measured.Refused r → k ≡ fault r
+pub fault_of : (k : Kids) (r : Refusal) → measured_in k ≡ Err r → k ≡ fault r
 unfolding measured_in
 fault_of (all bs) r e = cc
 fault_of (fault q) r e = ap fault (unrefused e)
   where
-    unrefused : measured.Refused q ≡ measured.Refused r → q ≡ r
+    unrefused : Err q ≡ Err r → q ≡ r
     unrefused p = cc

@@ -7,7 +7,6 @@ use native.Mathlib.Omega.{arith}
 use lib.ListN.{length}
 use Rattle.le.specs.Bytes.{part}
 use Rattle.tree.specs.declared.Listed.{Listed}
-use Rattle.block.specs.declared.Checked.TheVariants.{Block}
 use Rattle.block.specs.Block.{checked_block, block_bytes}
 use Rattle.block.proofs.BlockLaws.{checked_inside, checked_size, bytes_length}
 use Rattle.edition.specs.declared.Edition.{Edition}
@@ -17,6 +16,7 @@ use Rattle.edition.specs.Fair.{FairEdition}
 use Rattle.node.specs.Named.{ListedAs, none, one, DataTreeSound, Hands, own, children, Named, nothing, something}
 use Rattle.node.proofs.Kids.{joined_length}
 use Rattle.node.proofs.Exactly.{node_exactly}
+use Rattle.std.specs.Prelude.{Ok}
 
 as_many : (d : RootBlock) (g : List ℕ) (i n : ℕ) → length (numbers_from d g i n) ≡ n
 unfolding numbers_from
@@ -39,7 +39,7 @@ module _ (E : Edition) (fair : FairEdition E) where
   unfolding most_data
   one_most = omega (arith, mul-le-mul_right {m = 1} {n = E.tree.most} E.trailer.most fair.tree.some)
 
-  own_most : (image : List ℕ) (number : ℕ) (b : Listed) → checked_block E image number ≡ Block b → length (block_bytes image b) ≤ most_data E
+  own_most : (image : List ℕ) (number : ℕ) (b : Listed) → checked_block E image number ≡ Ok b → length (block_bytes image b) ≤ most_data E
   own_most image number b e = omega (arith, bytes_length image b (checked_inside E image number b e), checked_size E image number b e, one_most)
 
   tree_most : (image g : List ℕ) (bs : List Listed) → DataTreeSound E image g bs → total bs ≤ most_data E
@@ -48,7 +48,7 @@ module _ (E : Edition) (fair : FairEdition E) where
       le_trans (total_most image (numbers_in E.tree g) bs h.listed)
       (mul-le-mul_right {m = length (numbers_in E.tree g)} {n = E.tree.most} E.trailer.most (omega (arith, counted E.tree g, h.count.1)))
 
-  hands_most : (image : List ℕ) (number : ℕ) (b : Listed) (s : List ℕ) → checked_block E image number ≡ Block b → Hands E image b s → length s ≤ most_data E
+  hands_most : (image : List ℕ) (number : ℕ) (b : Listed) (s : List ℕ) → checked_block E image number ≡ Ok b → Hands E image b s → length s ≤ most_data E
   hands_most image number b s e (own i) = own_most image number b e
   hands_most image number b s e (children {bs} i t) =
       let g = part image b.offset b.size in

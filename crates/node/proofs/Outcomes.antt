@@ -16,54 +16,49 @@ use Rattle.keys.specs.Records.{cleared}
 use Rattle.keys.specs.Search.{joined}
 use Rattle.tree.specs.declared.Listed.{Listed}
 use Rattle.tree.specs.declared.Node.{Node}
-use Rattle.tree.specs.declared.FoundNode.{FoundNode}
-use Rattle.tree.specs.declared.FoundNode.TheVariants as node
 use Rattle.tree.specs.Answers.{node_of}
-use Rattle.block.specs.declared.Checked.{Checked}
-use Rattle.block.specs.declared.Checked.TheVariants as checked
 use Rattle.laws.specs.Front.{fronted}
 use Rattle.block.specs.Block.{checked_block, internal, block_bytes}
 use Rattle.edition.specs.declared.Edition.{Edition}
 use Rattle.edition.specs.declared.RootBlock.{RootBlock}
-use Rattle.node.specs.declared.NodeRead.{NodeRead}
-use Rattle.node.specs.declared.NodeRead.TheVariants as read
 use Rattle.node.specs.Steps.{measured_in, refused_sum, refused_read, gone_read, AllListed, bytes_at}
-use Rattle.node.specs.declared.Measured.{Measured}
-use Rattle.node.specs.declared.Measured.TheVariants as measured
 use Rattle.node.proofs.Kids.{kids_in, sum_of, fault_of, listing_of, all_listed, joined_blocks, joined_length}
 use Rattle.node.specs.Content.{Content, bytes, absent, refused, count_in, numbers_from, numbers_in, none_internal, shape_fits, Kids, all, fault, kids_of, total, gathered, tree_content, block_content, checked_content, data_of, found_content, node_content, answer_to, filled_by}
+use Rattle.std.specs.Prelude.{Option, Some, None, Result, Ok, Err}
+use Rattle.tree.specs.declared.Found.{Found}
+use Rattle.tree.specs.declared.Found.TheVariants.{Absent, Entry}
 
 -- what a read answers and leaves in the buffer
-abbrev pub Outcome : Content → List ℕ → NodeRead → List ℕ → Type 0
+abbrev pub Outcome : Content → List ℕ → Result (Option ℕ) Refusal → List ℕ → Type 0
 Outcome c out r after = (r ≡ answer_to c (length out)) × (after ≡ filled_by c out)
 
-pub done_outcome : (s out : List ℕ) (n : ℕ) → n ≡ length s → n ≤ length out → Outcome (bytes s) out (read.Length n) (fronted s out)
+pub done_outcome : (s out : List ℕ) (n : ℕ) → n ≡ length s → n ≤ length out → Outcome (bytes s) out (Ok (Some n)) (fronted s out)
 unfolding answer_to filled_by
 done_outcome s out n e h =
     let fits : length s ≤ length out = rw e at h in
-    (ap read.Length e ∙ rw (le-leb (length s) (length out) fits), rw (le-leb (length s) (length out) fits))
+    (ap (λ n. Ok (Some n)) e ∙ rw (le-leb (length s) (length out) fits), rw (le-leb (length s) (length out) fits))
 
-pub short_outcome : (s out : List ℕ) (n : ℕ) → n ≡ length s → length out < n → Outcome (bytes s) out (read.Refused (ShortBuffer needing n)) out
+pub short_outcome : (s out : List ℕ) (n : ℕ) → n ≡ length s → length out < n → Outcome (bytes s) out (Err (ShortBuffer needing n)) out
 unfolding answer_to filled_by
 short_outcome s out n e h =
     let short : length out < length s = rw e at h in (
-      ap (λ (k : ℕ). read.Refused (ShortBuffer needing k)) e ∙ rw (lt-leb (length s) (length out) short),
+      ap (λ (k : ℕ). Err (ShortBuffer needing k)) e ∙ rw (lt-leb (length s) (length out) short),
       rw (lt-leb (length s) (length out) short),
     )
 
-pub refused_outcome : (r : Refusal) (out : List ℕ) → Outcome (refused r) out (read.Refused r) out
+pub refused_outcome : (r : Refusal) (out : List ℕ) → Outcome (refused r) out (Err r) out
 unfolding answer_to filled_by
 refused_outcome r out = (refl, refl)
 
-pub absent_outcome : (out : List ℕ) → Outcome absent out read.Absent out
+pub absent_outcome : (out : List ℕ) → Outcome absent out (Ok None) out
 unfolding answer_to filled_by
 absent_outcome out = (refl, refl)
 
-pub none_outcome : (out : List ℕ) → Outcome (bytes []) out (read.Length 0) out
+pub none_outcome : (out : List ℕ) → Outcome (bytes []) out (Ok (Some 0)) out
 none_outcome out = done_outcome [] out 0 refl zero-le
 
 -- the same of a content that is equal
-pub outcome_of : (c d : Content) (out : List ℕ) (r : NodeRead) (after : List ℕ) → d ≡ c → Outcome c out r after → Outcome d out r after
+pub outcome_of : (c d : Content) (out : List ℕ) (r : Result (Option ℕ) Refusal) (after : List ℕ) → d ≡ c → Outcome c out r after → Outcome d out r after
 outcome_of c d out r after e o = rw e o
 
 -- the root block's shape, part by part
@@ -131,7 +126,7 @@ pub record Passed (E : Edition) (image g : List ℕ) (count s : ℕ) : Type 0 wh
   pub joins : joined (bytes_at E image) (numbers_from E.tree g 0 count) ≡ joined (block_bytes image) kids
   pub long : length (joined (block_bytes image) kids) ≡ s
 
-module _ (E : Edition) (image g : List ℕ) (count : ℕ) (m : Measured) (counted : count ≡ count_in g) (is : m ≡ measured_in (kids_of E image (numbers_from E.tree g 0 count))) where
+module _ (E : Edition) (image g : List ℕ) (count : ℕ) (m : Result ℕ Refusal) (counted : count ≡ count_in g) (is : m ≡ measured_in (kids_of E image (numbers_from E.tree g 0 count))) where
   numbers_are : numbers_from E.tree g 0 count ≡ numbers_in E.tree g
   unfolding numbers_in
   numbers_are = ap (numbers_from E.tree g 0) counted
@@ -139,10 +134,10 @@ module _ (E : Edition) (image g : List ℕ) (count : ℕ) (m : Measured) (counte
   measured_all : m ≡ measured_in (kids_of E image (numbers_in E.tree g))
   measured_all = is ∙ ap (λ (ns : List ℕ). measured_in (kids_of E image ns)) numbers_are
 
-  pub failed : (r : Refusal) → m ≡ measured.Refused r → kids_of E image (numbers_in E.tree g) ≡ fault r
+  pub failed : (r : Refusal) → m ≡ Err r → kids_of E image (numbers_in E.tree g) ≡ fault r
   failed r e = fault_of (kids_of E image (numbers_in E.tree g)) r (sym measured_all ∙ e)
 
-  pub passed : (s : ℕ) → m ≡ measured.Sum s → Passed E image g count s
+  pub passed : (s : ℕ) → m ≡ Ok s → Passed E image g count s
   passed s e =
       let k = sum_of (kids_of E image (numbers_in E.tree g)) s (sym measured_all ∙ e) in
       let l = listing_of E image (numbers_in E.tree g) (kids_in (kids_of E image (numbers_in E.tree g))) k.0 in
@@ -171,39 +166,39 @@ module _ (E : Edition) (image : List ℕ) (number : ℕ) where
   unfolding data_of
   data_none e = rw (eq-eqb (cleared number) 0 e)
 
-  pub data_refused : (r : Refusal) → (cleared number ≡ 0 → ⊥) → checked_block E image number ≡ checked.Refused r → data_of E image number ≡ refused r
+  pub data_refused : (r : Refusal) → (cleared number ≡ 0 → ⊥) → checked_block E image number ≡ Err r → data_of E image number ≡ refused r
   unfolding data_of checked_content
   data_refused r n e = rw (ne_eqb (cleared number) 0 n) (ap (checked_content E image) e)
 
-  pub data_block : (b : Listed) → (cleared number ≡ 0 → ⊥) → checked_block E image number ≡ checked.Block b → data_of E image number ≡ block_content E image b
+  pub data_block : (b : Listed) → (cleared number ≡ 0 → ⊥) → checked_block E image number ≡ Ok b → data_of E image number ≡ block_content E image b
   unfolding data_of checked_content
   data_block b n e = rw (ne_eqb (cleared number) 0 n) (ap (checked_content E image) e)
 
   -- a node
-  pub node_found : (n : Node) (pages : ℕ) → node_of E.nodes image number ≡ node.Found n pages → node_content E image number ≡ data_of E image n.block
+  pub node_found : (n : Node) (pages : ℕ) → node_of E.nodes image number ≡ Ok (Entry n pages) → node_content E image number ≡ data_of E image n.block
   unfolding node_content found_content
   node_found n pages e = ap (found_content E image) e
 
-  pub node_absent : (pages : ℕ) → node_of E.nodes image number ≡ node.Absent pages → node_content E image number ≡ absent
+  pub node_absent : (pages : ℕ) → node_of E.nodes image number ≡ Ok (Absent pages) → node_content E image number ≡ absent
   unfolding node_content found_content
   node_absent pages e = ap (found_content E image) e
 
-  pub node_refused : (r : Refusal) → node_of E.nodes image number ≡ node.Refused r → node_content E image number ≡ refused r
+  pub node_refused : (r : Refusal) → node_of E.nodes image number ≡ Err r → node_content E image number ≡ refused r
   unfolding node_content found_content
   node_refused r e = ap (found_content E image) e
 
 -- a lookup that did not find the node
-pub gone_outcome : (E : Edition) (image : List ℕ) (number : ℕ) (f : FoundNode) (out : List ℕ) → f ≡ node_of E.nodes image number → ((n : Node) (pages : ℕ) → f ≡ node.Found n pages → ⊥)
+pub gone_outcome : (E : Edition) (image : List ℕ) (number : ℕ) (f : Result (Found Node) Refusal) (out : List ℕ) → f ≡ node_of E.nodes image number → ((n : Node) (pages : ℕ) → f ≡ Ok (Entry n pages) → ⊥)
     → Outcome (node_content E image number) out (gone_read f) out
 unfolding gone_read
-gone_outcome E image number (node.Found n pages) out e k = absurd (k n pages refl)
-gone_outcome E image number (node.Absent pages) out e k = outcome_of absent _ out _ out (node_absent E image number pages (sym e)) (absent_outcome out)
-gone_outcome E image number (node.Refused r) out e k = outcome_of (refused r) _ out _ out (node_refused E image number r (sym e)) (refused_outcome r out)
+gone_outcome E image number (Ok (Entry n pages)) out e k = absurd (k n pages refl)
+gone_outcome E image number (Ok (Absent pages)) out e k = outcome_of absent _ out _ out (node_absent E image number pages (sym e)) (absent_outcome out)
+gone_outcome E image number (Err r) out e k = outcome_of (refused r) _ out _ out (node_refused E image number r (sym e)) (refused_outcome r out)
 
-pub refused_sum_is : (m : Measured) (r : Refusal) → m ≡ measured.Refused r → refused_sum m ≡ read.Refused r
+pub refused_sum_is : (m : Result ℕ Refusal) (r : Refusal) → m ≡ Err r → refused_sum m ≡ Err r
 unfolding refused_sum
 refused_sum_is m r e = rw e
 
-pub refused_read_is : (c : Checked) (r : Refusal) → c ≡ checked.Refused r → refused_read c ≡ read.Refused r
+pub refused_read_is : (c : Result Listed Refusal) (r : Refusal) → c ≡ Err r → refused_read c ≡ Err r
 unfolding refused_read
 refused_read_is c r e = rw e

@@ -6,10 +6,8 @@ use mathlib.Core.List.{List, [], ◌∷◌, ◌++◌}
 use lib.Dec.{leb, eqb}
 use lib.ListN.{length}
 use Rattle.le.specs.Bytes.{part, field}
-use Rattle.refusal.specs.declared.Verdict.{Verdict}
-use Rattle.refusal.specs.declared.Verdict.TheVariants.{Accepted, Refused}
 use Rattle.refusal.specs.declared.Fault.TheVariants.{DataTree, ShortBuffer}
-use Rattle.refusal.specs.Order.{◌at◌, ◌needing◌, in_order, demand, after, ◌then◌}
+use Rattle.refusal.specs.Order.{Verdict, ◌at◌, ◌needing◌, in_order, demand, after, ◌then◌}
 use Rattle.refusal.proofs.OrderLaws.{in_order_append}
 use Rattle.keys.specs.declared.Sought.TheVariants.{Equal}
 use Rattle.keys.specs.Records.{cleared}
@@ -19,37 +17,36 @@ use Rattle.search.proofs.Tried.{verdict_of}
 use Rattle.tree.specs.Lookup.{lookup, search_rules}
 use Rattle.tree.specs.Answers.{shown, as_node, node_of}
 use Rattle.tree.proofs.InOrder.{search_tried}
-use Rattle.block.specs.declared.Checked.{Checked}
-use Rattle.block.specs.declared.Checked.TheVariants as checked
 use Rattle.block.specs.Block.{checked_block, internal, block_bytes}
 use Rattle.block.specs.Tried.{test_rules}
 use Rattle.block.proofs.TriedLaws.{verdict_in, test_tried}
 use Rattle.edition.specs.declared.Edition.{Edition}
-use Rattle.node.specs.declared.NodeRead.{NodeRead}
-use Rattle.node.specs.declared.NodeRead.TheVariants as read
 use Rattle.node.specs.Content.{Content, bytes, absent, refused, numbers_in, shape_fits, Kids, all, fault, and_kids, kids_of, total, gathered, tree_content, block_content, checked_content, data_of, found_content, node_content, answer_to}
 use Rattle.node.specs.Tried.{sum_rules, data_tree_rules, passed_rules, data_block_rules, found_rules, content_rules, buffer_rules, data_rules}
+use Rattle.std.specs.Prelude.{Option, Some, None, Result, Ok, Err}
+use Rattle.refusal.specs.declared.Refusal.{Refusal}
+use Rattle.tree.specs.declared.Listed.{Listed}
 
 -- the refusal of an answer, if it is one
 unfoldable content_verdict : Content → Verdict
-content_verdict (bytes s) = Accepted
-content_verdict absent = Accepted
-content_verdict (refused r) = Refused r
+content_verdict (bytes s) = Ok tt
+content_verdict absent = Ok tt
+content_verdict (refused r) = Err r
 
 unfoldable kids_verdict : Kids → Verdict
-kids_verdict (all bs) = Accepted
-kids_verdict (fault r) = Refused r
+kids_verdict (all bs) = Ok tt
+kids_verdict (fault r) = Err r
 
-unfoldable pub read_verdict : NodeRead → Verdict
-read_verdict (read.Length n) = Accepted
-read_verdict read.Absent = Accepted
-read_verdict (read.Refused r) = Refused r
+unfoldable pub read_verdict : Result (Option ℕ) Refusal → Verdict
+read_verdict (Ok (Some n)) = Ok tt
+read_verdict (Ok None) = Ok tt
+read_verdict (Err r) = Err r
 
 -- a test before a content
 content_after : (v : Verdict) (c : Content) → content_verdict (after refused v c) ≡ (v then content_verdict c)
 unfolding content_verdict after
-content_after Accepted c = refl
-content_after (Refused r) c = refl
+content_after (Ok tt) c = refl
+content_after (Err r) c = refl
 
 some_bytes : (s : List ℕ) → content_verdict (bytes s) ≡ in_order []
 unfolding content_verdict in_order
@@ -57,11 +54,11 @@ some_bytes s = refl
 
 module _ (E : Edition) (image : List ℕ) where
   -- each child in turn
-  kid_tried : (c : Checked) (kids : Kids) → (verdict_in c then kids_verdict kids) ≡ kids_verdict (and_kids c kids)
+  kid_tried : (c : Result Listed Refusal) (kids : Kids) → (verdict_in c then kids_verdict kids) ≡ kids_verdict (and_kids c kids)
   unfolding verdict_in kids_verdict and_kids after
-  kid_tried (checked.Block b) (all bs) = refl
-  kid_tried (checked.Block b) (fault r) = refl
-  kid_tried (checked.Refused r) kids = refl
+  kid_tried (Ok b) (all bs) = refl
+  kid_tried (Ok b) (fault r) = refl
+  kid_tried (Err r) kids = refl
 
   kids_tried : (ns : List ℕ) → in_order (joined (test_rules E image) ns) ≡ kids_verdict (kids_of E image ns)
   unfolding joined kids_of kids_verdict in_order
@@ -76,7 +73,7 @@ module _ (E : Edition) (image : List ℕ) where
   unfolding kids_verdict sum_rules gathered content_verdict after in_order demand
   sum_tried offset g (all bs) = by (eqb (total bs) (field g 4 4))
     where
-      by : (w : Bool) → (demand w (DataTree at offset) then Accepted) ≡ content_verdict (after refused (demand w (DataTree at offset)) (bytes (joined (block_bytes image) bs)))
+      by : (w : Bool) → (demand w (DataTree at offset) then Ok tt) ≡ content_verdict (after refused (demand w (DataTree at offset)) (bytes (joined (block_bytes image) bs)))
       by true = refl
       by false = refl
   sum_tried offset g (fault r) = refl
@@ -90,15 +87,15 @@ module _ (E : Edition) (image : List ℕ) where
       ∙ sum_tried offset g (kids_of E image (numbers_in E.tree g)))
       ∙ sym (content_after (demand (shape_fits E.tree g) (DataTree at offset)) _)
 
-  passed_tried : (c : Checked) → (verdict_in c then in_order (passed_rules E image c)) ≡ content_verdict (checked_content E image c)
+  passed_tried : (c : Result Listed Refusal) → (verdict_in c then in_order (passed_rules E image c)) ≡ content_verdict (checked_content E image c)
   unfolding verdict_in passed_rules checked_content block_content content_verdict after
-  passed_tried (checked.Block b) = by (internal b.block)
+  passed_tried (Ok b) = by (internal b.block)
     where
       by : (i : Bool) → in_order (cond i (data_tree_rules E image b.offset (part image b.offset b.size)) [])
           ≡ content_verdict (cond i (tree_content E image b.offset (part image b.offset b.size)) (bytes (block_bytes image b)))
       by true = tree_tried b.offset (part image b.offset b.size)
       by false = sym (some_bytes (block_bytes image b))
-  passed_tried (checked.Refused r) = refl
+  passed_tried (Err r) = refl
 
   block_tried : (number : ℕ) → in_order (data_block_rules E image number) ≡ content_verdict (data_of E image number)
   unfolding data_block_rules data_of
@@ -129,7 +126,7 @@ module _ (E : Edition) (image : List ℕ) where
   unfolding content_verdict buffer_rules answer_to read_verdict after in_order demand
   buffer_tried (bytes s) space = by (leb (length s) space)
     where
-      by : (w : Bool) → (demand w (ShortBuffer needing length s) then Accepted) ≡ read_verdict (cond w (read.Length (length s)) (read.Refused (ShortBuffer needing length s)))
+      by : (w : Bool) → (demand w (ShortBuffer needing length s) then Ok tt) ≡ read_verdict (cond w (Ok (Some (length s))) (Err (ShortBuffer needing length s)))
       by true = refl
       by false = refl
   buffer_tried absent space = refl

@@ -1,5 +1,5 @@
 -- Document 01, "Node data". Assumes nothing: these are definitions.
-use Rattle.std.specs.Prelude.{ℕ, zero, suc, ◌+◌, ◌*◌, Bool, true, not, ◌&&◌, cond, List, [], ◌∷◌, leb, eqb, length}
+use Rattle.std.specs.Prelude.{ℕ, zero, suc, ◌+◌, ◌*◌, Bool, true, not, ◌&&◌, cond, List, [], ◌∷◌, leb, eqb, length, Option, Some, None, Result, Ok, Err}
 use Rattle.le.specs.Bytes.{part, field, byte}
 use Rattle.refusal.specs.declared.Refusal.{Refusal}
 use Rattle.refusal.specs.declared.Fault.TheVariants.{DataTree, ShortBuffer}
@@ -7,17 +7,14 @@ use Rattle.refusal.specs.Order.{◌at◌, ◌needing◌, demand, after}
 use Rattle.keys.specs.Records.{cleared}
 use Rattle.keys.specs.Search.{joined}
 use Rattle.tree.specs.declared.Listed.{Listed}
-use Rattle.tree.specs.declared.FoundNode.{FoundNode}
-use Rattle.tree.specs.declared.FoundNode.TheVariants as node
 use Rattle.tree.specs.Answers.{node_of}
-use Rattle.block.specs.declared.Checked.{Checked}
-use Rattle.block.specs.declared.Checked.TheVariants as checked
 use Rattle.laws.specs.Front.{fronted}
 use Rattle.block.specs.Block.{checked_block, internal, block_bytes}
 use Rattle.edition.specs.declared.Edition.{Edition}
 use Rattle.edition.specs.declared.RootBlock.{RootBlock}
-use Rattle.node.specs.declared.NodeRead.{NodeRead}
-use Rattle.node.specs.declared.NodeRead.TheVariants as read
+use Rattle.tree.specs.declared.Found.{Found}
+use Rattle.tree.specs.declared.Node.{Node}
+use Rattle.tree.specs.declared.Found.TheVariants.{Absent, Entry}
 
 -- what a node's data is: its bytes; absent; or a refusal
 pub data Content : Type 0 where
@@ -55,10 +52,10 @@ pub data Kids : Type 0 where
   all : List Listed → Kids
   fault : Refusal → Kids
 
-unfoldable pub and_kids : Checked → Kids → Kids
-and_kids (checked.Block b) (all bs) = all (b ∷ bs)
-and_kids (checked.Block b) (fault r) = fault r
-and_kids (checked.Refused r) kids = fault r
+unfoldable pub and_kids : Result Listed Refusal → Kids → Kids
+and_kids (Ok b) (all bs) = all (b ∷ bs)
+and_kids (Ok b) (fault r) = fault r
+and_kids (Err r) kids = fault r
 
 unfoldable pub kids_of : Edition → List ℕ → List ℕ → Kids
 kids_of E image [] = all []
@@ -83,19 +80,19 @@ tree_content E image offset g = after refused (demand (shape_fits E.tree g) (Dat
 unfoldable pub block_content : Edition → List ℕ → Listed → Content
 block_content E image b = cond (internal b.block) (tree_content E image b.offset (part image b.offset b.size)) (bytes (block_bytes image b))
 
-unfoldable pub checked_content : Edition → List ℕ → Checked → Content
-checked_content E image (checked.Block b) = block_content E image b
-checked_content E image (checked.Refused r) = refused r
+unfoldable pub checked_content : Edition → List ℕ → Result Listed Refusal → Content
+checked_content E image (Ok b) = block_content E image b
+checked_content E image (Err r) = refused r
 
 -- "Number 0: no bytes. Any other is looked up and tested (12 to 15)." 02, 1/13: "A data block number of 1 counts as 0."
 unfoldable pub data_of : Edition → List ℕ → ℕ → Content
 data_of E image number = cond (eqb (cleared number) 0) (bytes []) (checked_content E image (checked_block E image number))
 
 -- "Node data: node lookup (absent is answered), then its data block."
-unfoldable pub found_content : Edition → List ℕ → FoundNode → Content
-found_content E image (node.Found n pages) = data_of E image n.block
-found_content E image (node.Absent pages) = absent
-found_content E image (node.Refused r) = refused r
+unfoldable pub found_content : Edition → List ℕ → Result (Found Node) Refusal → Content
+found_content E image (Ok (Entry n pages)) = data_of E image n.block
+found_content E image (Ok (Absent pages)) = absent
+found_content E image (Err r) = refused r
 
 unfoldable pub node_content : Edition → List ℕ → ℕ → Content
 node_content E image number = found_content E image (node_of E.nodes image number)
@@ -105,10 +102,10 @@ unfoldable pub most_data : Edition → ℕ
 most_data E = E.tree.most * E.trailer.most
 
 -- the outcome of a read into a buffer of this length: "then 17". "The answer is the length, without a page count."
-unfoldable pub answer_to : Content → ℕ → NodeRead
-answer_to (bytes s) space = cond (leb (length s) space) (read.Length (length s)) (read.Refused (ShortBuffer needing length s))
-answer_to absent space = read.Absent
-answer_to (refused r) space = read.Refused r
+unfoldable pub answer_to : Content → ℕ → Result (Option ℕ) Refusal
+answer_to (bytes s) space = cond (leb (length s) space) (Ok (Some (length s))) (Err (ShortBuffer needing length s))
+answer_to absent space = Ok None
+answer_to (refused r) space = Err r
 
 -- and the buffer at exit: the data at its front, or as it was
 unfoldable pub filled_by : Content → List ℕ → List ℕ

@@ -1,22 +1,21 @@
 -- What a node read hands out: the bytes of exactly the blocks that the node's data names, in order. Assumes nothing: these are definitions.
-use Rattle.std.specs.Prelude.{ℕ, ◌+◌, ◌*◌, ◌≤◌, ◌≡◌, true, false, List, [], ◌∷◌, length}
+use Rattle.std.specs.Prelude.{ℕ, ◌+◌, ◌*◌, ◌≤◌, ◌≡◌, true, false, List, [], ◌∷◌, length, Ok}
 use Rattle.le.specs.Bytes.{part, field, byte}
 use Rattle.keys.specs.Plain.{All}
 use Rattle.keys.specs.Records.{cleared}
 use Rattle.keys.specs.Search.{joined}
 use Rattle.tree.specs.declared.Listed.{Listed}
 use Rattle.tree.specs.declared.Node.{Node}
-use Rattle.tree.specs.declared.FoundNode.TheVariants.{Found}
 use Rattle.tree.specs.Answers.{node_of}
-use Rattle.block.specs.declared.Checked.TheVariants.{Block}
 use Rattle.block.specs.Block.{checked_block, internal, block_bytes}
 use Rattle.edition.specs.declared.Edition.{Edition}
 use Rattle.node.specs.Content.{count_in, numbers_in, total}
+use Rattle.tree.specs.declared.Found.TheVariants.{Entry}
 
 -- each number is listed in the block tree, as the block beside it, which passes its tests
 pub data ListedAs (E : Edition) (image : List ℕ) : List ℕ → List Listed → Type 0 where
   none : ListedAs E image [] []
-  one : {n : ℕ} {ns : List ℕ} {b : Listed} {bs : List Listed} → checked_block E image n ≡ Block b → ListedAs E image ns bs → ListedAs E image (n ∷ ns) (b ∷ bs)
+  one : {n : ℕ} {ns : List ℕ} {b : Listed} {bs : List Listed} → checked_block E image n ≡ Ok b → ListedAs E image ns bs → ListedAs E image (n ∷ ns) (b ∷ bs)
 
 -- the rules of a data tree with the root bytes g and the children bs, as a plain conjunction
 pub record DataTreeSound (E : Edition) (image g : List ℕ) (bs : List Listed) : Type 0 where
@@ -35,6 +34,6 @@ pub data Hands (E : Edition) (image : List ℕ) (b : Listed) : List ℕ → Type
 
 -- the data of a node: none where its data block is 0 or counts as 0, else what its data block hands out
 pub data Named (E : Edition) (image : List ℕ) (node : ℕ) : List ℕ → Type 0 where
-  nothing : {n : Node} {pages : ℕ} → node_of E.nodes image node ≡ Found n pages → cleared n.block ≡ 0 → Named E image node []
-  something : {n : Node} {pages : ℕ} {b : Listed} {s : List ℕ} → node_of E.nodes image node ≡ Found n pages → (cleared n.block ≡ 0 → ⊥)
-      → checked_block E image n.block ≡ Block b → Hands E image b s → Named E image node s
+  nothing : {n : Node} {pages : ℕ} → node_of E.nodes image node ≡ Ok (Entry n pages) → cleared n.block ≡ 0 → Named E image node []
+  something : {n : Node} {pages : ℕ} {b : Listed} {s : List ℕ} → node_of E.nodes image node ≡ Ok (Entry n pages) → (cleared n.block ≡ 0 → ⊥)
+      → checked_block E image n.block ≡ Ok b → Hands E image b s → Named E image node s

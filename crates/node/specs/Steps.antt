@@ -1,54 +1,50 @@
 -- What the steps of a node read come to. Assumes nothing: these are definitions.
-use Rattle.std.specs.Prelude.{ℕ, ◌≡◌, List, []}
+use Rattle.std.specs.Prelude.{ℕ, ◌≡◌, List, [], Option, None, Result, Ok, Err}
 use Rattle.keys.specs.Plain.{All}
 use Rattle.tree.specs.declared.Listed.{Listed}
-use Rattle.block.specs.declared.Checked.{Checked}
-use Rattle.block.specs.declared.Checked.TheVariants as checked
 use Rattle.block.specs.Block.{checked_block, block_bytes}
-use Rattle.tree.specs.declared.FoundNode.{FoundNode}
-use Rattle.tree.specs.declared.FoundNode.TheVariants as node
 use Rattle.edition.specs.declared.Edition.{Edition}
-use Rattle.node.specs.declared.NodeRead.{NodeRead}
-use Rattle.node.specs.declared.NodeRead.TheVariants as read
-use Rattle.node.specs.declared.Measured.{Measured}
-use Rattle.node.specs.declared.Measured.TheVariants as measured
 use Rattle.node.specs.Content.{Kids, all, fault, total}
+use Rattle.refusal.specs.declared.Refusal.{Refusal}
+use Rattle.tree.specs.declared.Found.{Found}
+use Rattle.tree.specs.declared.Node.{Node}
+use Rattle.tree.specs.declared.Found.TheVariants.{Absent, Entry}
 
 -- the tests of the children: the sum of their sizes, or the first refusal
-unfoldable pub measured_in : Kids → Measured
-measured_in (all bs) = measured.Sum (total bs)
-measured_in (fault r) = measured.Refused r
+unfoldable pub measured_in : Kids → Result ℕ Refusal
+measured_in (all bs) = Ok (total bs)
+measured_in (fault r) = Err r
 
-unfoldable pub refused_in : Checked → Measured
-refused_in (checked.Block b) = measured.Sum b.size
-refused_in (checked.Refused r) = measured.Refused r
+unfoldable pub refused_in : Result Listed Refusal → Result ℕ Refusal
+refused_in (Ok b) = Ok b.size
+refused_in (Err r) = Err r
 
 -- a number that is listed as a block which passes its tests
 pub record IsListed (E : Edition) (image : List ℕ) (n : ℕ) : Type 0 where
   pub block : Listed
-  pub is : checked_block E image n ≡ checked.Block block
+  pub is : checked_block E image n ≡ Ok block
 
 abbrev pub AllListed : Edition → List ℕ → List ℕ → Type 0
 AllListed E image ns = All (IsListed E image) ns
 
 -- the bytes of the block that is listed under a number
-unfoldable pub bytes_in : List ℕ → Checked → List ℕ
-bytes_in image (checked.Block b) = block_bytes image b
-bytes_in image (checked.Refused r) = []
+unfoldable pub bytes_in : List ℕ → Result Listed Refusal → List ℕ
+bytes_in image (Ok b) = block_bytes image b
+bytes_in image (Err r) = []
 
 unfoldable pub bytes_at : Edition → List ℕ → ℕ → List ℕ
 bytes_at E image n = bytes_in image (checked_block E image n)
 
 -- a refusal out of an inner step, as the answer of the read; what is no refusal plays no part
-unfoldable pub refused_sum : Measured → NodeRead
-refused_sum (measured.Sum n) = read.Absent
-refused_sum (measured.Refused r) = read.Refused r
+unfoldable pub refused_sum : Result ℕ Refusal → Result (Option ℕ) Refusal
+refused_sum (Ok n) = Ok None
+refused_sum (Err r) = Err r
 
-unfoldable pub refused_read : Checked → NodeRead
-refused_read (checked.Block b) = read.Absent
-refused_read (checked.Refused r) = read.Refused r
+unfoldable pub refused_read : Result Listed Refusal → Result (Option ℕ) Refusal
+refused_read (Ok b) = Ok None
+refused_read (Err r) = Err r
 
-unfoldable pub gone_read : FoundNode → NodeRead
-gone_read (node.Found n pages) = read.Absent
-gone_read (node.Absent pages) = read.Absent
-gone_read (node.Refused r) = read.Refused r
+unfoldable pub gone_read : Result (Found Node) Refusal → Result (Option ℕ) Refusal
+gone_read (Ok (Entry n pages)) = Ok None
+gone_read (Ok (Absent pages)) = Ok None
+gone_read (Err r) = Err r

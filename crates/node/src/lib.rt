@@ -20,21 +20,6 @@ use edition::{Edition, RootBlock};
 use refusal::{Fault, Refusal, Verdict};
 use tree::{FoundBlock, FoundNode, Listed, Way};
 
-// The length of a node's data; absent; or the refusal.
-#[derive(Clone, Copy)]
-pub enum NodeRead {
-    Length(u64),
-    Absent,
-    Refused(Refusal),
-}
-
-// The sum of the sizes of a data tree's blocks; or the refusal.
-#[derive(Clone, Copy)]
-pub enum Measured {
-    Sum(u64),
-    Refused(Refusal),
-}
-
 // The i-th number in a data tree's root block.
 fn number_at(root: &[u8], d: RootBlock, i: usize) -> u64
     requires { FairRootBlock d × (8 + i * d.word + d.word ≤ length root.now) × (i ≤ 65535) }
@@ -82,43 +67,43 @@ fn shape_fits(root: &[u8], d: RootBlock) -> bool
         & none_internal(root, d, count)
 }
 
-fn refused_measure(checked: Checked) -> Measured
+fn refused_measure(checked: Result<Listed, Refusal>) -> Result<u64, Refusal>
     ensures { result ≡ refused_in checked }
 {
     match checked {
-        Checked::Block(b) => Measured::Sum(b.size),
-        Checked::Refused(refusal) => Measured::Refused(refusal),
+        Ok(b) => Ok(b.size),
+        Err(refusal) => Err(refusal),
     }
 }
 
 // The children of a data tree, each looked up and tested in turn. The root page is tested once; the way
 // to a leaf page is taken again for the children behind that are listed there too.
-fn measure(image: &[u8], e: Edition, root: &[u8], count: usize) -> Measured
-    requires { FairEdition e × (8 + count * e.tree.word ≤ length root.now) × (count ≤ 65535) × (header_fits image.now ≡ Verdict.Accepted) }
+fn measure(image: &[u8], e: Edition, root: &[u8], count: usize) -> Result<u64, Refusal>
+    requires { FairEdition e × (8 + count * e.tree.word ≤ length root.now) × (count ≤ 65535) × (header_fits image.now ≡ Ok tt) }
     ensures { result ≡ measured_in (kids_of e image.now (numbers_from e.tree root.now 0 count)) }
 {
     let start = tree::check_root(image, e.blocks);
-    let mut way = Way::Nowhere(0);
+    let mut way = Ok(Found::Absent(0));
     let mut sum: u64 = 0;
     let mut i: usize = 0;
     while i < count {
         let number = number_at(root, e.tree, i);
         way = tree::way_to(image, e.blocks, start, way, number);
         let checked = block::check_block_at(image, e, way, number);
-        let Checked::Block(b) = checked else {
+        let Ok(b) = checked else {
             return refused_measure(checked);
         };
         sum += b.size;
         i += 1;
     }
-    Measured::Sum(sum)
+    Ok(sum)
 }
 
 // The block at the end of the way of a number whose tests have passed. The last two arms are never
 // reached: a second lookup of the number finds the same block.
 fn listed_at(image: &[u8], e: Edition, way: Way, number: u64) -> Listed
     requires { FairEdition e × IsListed e image.now number × FromRoot e.blocks image.now way × (at_end e.blocks image.now way (compared e.blocks number) ≡ lookup e.blocks image.now number) }
-    ensures { checked_block e image.now number ≡ Checked.Block result }
+    ensures { checked_block e image.now number ≡ Ok result }
 {
     let nothing = Listed {
         block: 0,
@@ -128,20 +113,20 @@ fn listed_at(image: &[u8], e: Edition, way: Way, number: u64) -> Listed
     };
     let found = tree::block_at(image, e.blocks, way, number);
     match found {
-        FoundBlock::Found(b, _) => b,
-        FoundBlock::Absent(_) => nothing,
-        FoundBlock::Refused(_) => nothing,
+        Ok(Found::Entry(b, _)) => b,
+        Ok(Found::Absent(_)) => nothing,
+        Err(_) => nothing,
     }
 }
 
 // The children's bytes, each right behind those of the child before.
 fn gather(image: &[u8], e: Edition, root: &[u8], count: usize, out: &mut [u8])
-    requires fair_edition { FairEdition e × (8 + count * e.tree.word ≤ length root.now) × (count ≤ 65535) × AllListed e image.now (numbers_from e.tree root.now 0 count) × (header_fits image.now ≡ Verdict.Accepted) }
+    requires fair_edition { FairEdition e × (8 + count * e.tree.word ≤ length root.now) × (count ≤ 65535) × AllListed e image.now (numbers_from e.tree root.now 0 count) × (header_fits image.now ≡ Ok tt) }
     requires count_in_bounds { length (joined (bytes_at e image.now) (numbers_from e.tree root.now 0 count)) ≤ length out.old }
     ensures { out.new ≡ fronted (joined (bytes_at e image.now) (numbers_from e.tree root.now 0 count)) out.old }
 {
     let start = tree::check_root(image, e.blocks);
-    let mut way = Way::Nowhere(0);
+    let mut way = Ok(Found::Absent(0));
     let mut n: usize = 0;
     let mut i: usize = 0;
     while i < count {
@@ -154,20 +139,20 @@ fn gather(image: &[u8], e: Edition, root: &[u8], count: usize, out: &mut [u8])
     }
 }
 
-fn short_buffer(size: u64) -> NodeRead
-    ensures { result ≡ NodeRead.Refused (Fault.ShortBuffer needing size) }
+fn short_buffer(size: u64) -> Result<Option<u64>, Refusal>
+    ensures { result ≡ Err (Fault.ShortBuffer needing size) }
 {
-    NodeRead::Refused(Refusal {
+    Err(Refusal {
         fault: Fault::ShortBuffer,
         place: 0,
         more: size,
     })
 }
 
-fn no_data_tree(offset: u64) -> NodeRead
-    ensures { result ≡ NodeRead.Refused (Fault.DataTree at offset) }
+fn no_data_tree(offset: u64) -> Result<Option<u64>, Refusal>
+    ensures { result ≡ Err (Fault.DataTree at offset) }
 {
-    NodeRead::Refused(Refusal {
+    Err(Refusal {
         fault: Fault::DataTree,
         place: offset,
         more: 0,
@@ -175,7 +160,7 @@ fn no_data_tree(offset: u64) -> NodeRead
 }
 
 // The data is one block: 17, then its bytes.
-fn read_one(image: &[u8], b: Listed, out: &mut [u8]) -> NodeRead
+fn read_one(image: &[u8], b: Listed, out: &mut [u8]) -> Result<Option<u64>, Refusal>
     requires { (564 ≤ length image.now) × (b.offset + b.size ≤ length image.now) }
     ensures answer { result ≡ answer_to (bytes_of (block_bytes image.now b)) (length out.old) }
     ensures buffer { out.new ≡ filled_by (bytes_of (block_bytes image.now b)) out.old }
@@ -185,22 +170,22 @@ fn read_one(image: &[u8], b: Listed, out: &mut [u8]) -> NodeRead
         return short_buffer(size);
     }
     block::block_into(image, b, out);
-    NodeRead::Length(size)
+    Ok(Some(size))
 }
 
-fn refused_sum(measured: Measured) -> NodeRead
+fn refused_sum(measured: Result<u64, Refusal>) -> Result<Option<u64>, Refusal>
     ensures { result ≡ refused_sum measured }
 {
     match measured {
-        Measured::Sum(_) => NodeRead::Absent,
-        Measured::Refused(refusal) => NodeRead::Refused(refusal),
+        Ok(_) => Ok(None),
+        Err(refusal) => Err(refusal),
     }
 }
 
 // The data is a data tree with the root block's bytes as stored: its shape, its children in turn, the
 // sum, 17, and then the bytes.
-fn read_root(image: &[u8], e: Edition, root: &[u8], offset: u64, out: &mut [u8]) -> NodeRead
-    requires { FairEdition e × (header_fits image.now ≡ Verdict.Accepted) }
+fn read_root(image: &[u8], e: Edition, root: &[u8], offset: u64, out: &mut [u8]) -> Result<Option<u64>, Refusal>
+    requires { FairEdition e × (header_fits image.now ≡ Ok tt) }
     ensures answer { result ≡ answer_to (tree_content e image.now offset root.now) (length out.old) }
     ensures buffer { out.new ≡ filled_by (tree_content e image.now offset root.now) out.old }
 {
@@ -209,7 +194,7 @@ fn read_root(image: &[u8], e: Edition, root: &[u8], offset: u64, out: &mut [u8])
     }
     let count = le::field2(root, 2) as usize;
     let measured = measure(image, e, root, count);
-    let Measured::Sum(sum) = measured else {
+    let Ok(sum) = measured else {
         return refused_sum(measured);
     };
     if sum != le::field4(root, 4) as u64 {
@@ -219,12 +204,12 @@ fn read_root(image: &[u8], e: Edition, root: &[u8], offset: u64, out: &mut [u8])
         return short_buffer(sum);
     }
     gather(image, e, root, count, out);
-    NodeRead::Length(sum)
+    Ok(Some(sum))
 }
 
 // The data of a listed block that has passed its tests.
-fn read_listed(image: &[u8], e: Edition, b: Listed, out: &mut [u8]) -> NodeRead
-    requires { FairEdition e × (564 ≤ length image.now) × (b.offset + b.size ≤ length image.now) × (header_fits image.now ≡ Verdict.Accepted) }
+fn read_listed(image: &[u8], e: Edition, b: Listed, out: &mut [u8]) -> Result<Option<u64>, Refusal>
+    requires { FairEdition e × (564 ≤ length image.now) × (b.offset + b.size ≤ length image.now) × (header_fits image.now ≡ Ok tt) }
     ensures answer { result ≡ answer_to (block_content e image.now b) (length out.old) }
     ensures buffer { out.new ≡ filled_by (block_content e image.now b) out.old }
 {
@@ -236,50 +221,50 @@ fn read_listed(image: &[u8], e: Edition, b: Listed, out: &mut [u8]) -> NodeRead
     read_one(image, b, out)
 }
 
-fn refused_data(checked: Checked) -> NodeRead
+fn refused_data(checked: Result<Listed, Refusal>) -> Result<Option<u64>, Refusal>
     ensures { result ≡ refused_read checked }
 {
     match checked {
-        Checked::Block(_) => NodeRead::Absent,
-        Checked::Refused(refusal) => NodeRead::Refused(refusal),
+        Ok(_) => Ok(None),
+        Err(refusal) => Err(refusal),
     }
 }
 
 // The data under a data block number: none under 0, and 1 counts as 0.
-fn read_data(image: &[u8], e: Edition, number: u64, out: &mut [u8]) -> NodeRead
-    requires { FairEdition e × (header_fits image.now ≡ Verdict.Accepted) }
+fn read_data(image: &[u8], e: Edition, number: u64, out: &mut [u8]) -> Result<Option<u64>, Refusal>
+    requires { FairEdition e × (header_fits image.now ≡ Ok tt) }
     ensures answer { result ≡ answer_to (data_of e image.now number) (length out.old) }
     ensures buffer { out.new ≡ filled_by (data_of e image.now number) out.old }
 {
     if keys::cleared(number) == 0 {
-        return NodeRead::Length(0);
+        return Ok(Some(0));
     }
     let checked = block::check_block_in(image, e, number);
-    let Checked::Block(b) = checked else {
+    let Ok(b) = checked else {
         return refused_data(checked);
     };
     read_listed(image, e, b, out)
 }
 
 // Absent and refusals, as the answer of the read.
-fn gone(found: FoundNode) -> NodeRead
+fn gone(found: Result<Found<Node>, Refusal>) -> Result<Option<u64>, Refusal>
     ensures { result ≡ gone_read found }
 {
     match found {
-        FoundNode::Found(_, _) => NodeRead::Absent,
-        FoundNode::Absent(_) => NodeRead::Absent,
-        FoundNode::Refused(refusal) => NodeRead::Refused(refusal),
+        Ok(Found::Entry(_, _)) => Ok(None),
+        Ok(Found::Absent(_)) => Ok(None),
+        Err(refusal) => Err(refusal),
     }
 }
 
 // Node lookup, then its data block. The header is tested once, with the node. No byte is written before the last test has passed.
-pub fn read_node(image: &[u8], e: Edition, node: u64, out: &mut [u8]) -> NodeRead
+pub fn read_node(image: &[u8], e: Edition, node: u64, out: &mut [u8]) -> Result<Option<u64>, Refusal>
     requires { FairEdition e }
     ensures answer { result ≡ answer_to (node_content e image.now node) (length out.old) }
     ensures buffer { out.new ≡ filled_by (node_content e image.now node) out.old }
 {
     let found = tree::find_node(image, e.nodes, node);
-    let FoundNode::Found(listed, _) = found else {
+    let Ok(Found::Entry(listed, _)) = found else {
         return gone(found);
     };
     read_data(image, e, listed.block, out)

@@ -11,32 +11,31 @@ use Rattle.laws.specs.Front.{fronted}
 use Rattle.le.specs.Bytes.{part}
 use Rattle.refusal.specs.declared.Fault.TheVariants.{ShortBuffer}
 use Rattle.refusal.specs.declared.Refusal.{Refusal}
-use Rattle.refusal.specs.declared.Verdict.{Verdict}
-use Rattle.refusal.specs.declared.Verdict.TheVariants.{Accepted, Refused}
-use Rattle.refusal.specs.Order.{◌needing◌, demand, in_order, after, AllHold, none, both}
+use Rattle.refusal.specs.Order.{Verdict, ◌needing◌, demand, in_order, after, AllHold, none, both}
 use Rattle.refusal.proofs.OrderLaws.{goes, ends, accepted_exactly}
 use Rattle.keys.specs.Search.{joined}
 use Rattle.keys.proofs.Pieces.{pieces_length, piece_at}
 use Rattle.edition.specs.declared.Layout.{Layout}
 use Rattle.nodelist.specs.Places.{place_of, places_of, list_rules, list_fits, area_of}
 use Rattle.nodelist.proofs.Words.{place_length}
+use Rattle.std.specs.Prelude.{Ok, Err}
 
 module _ (count words : ℕ) where
-  pub too_many : 4096 < count → Refused (ShortBuffer needing 4096) ≡ list_fits count words
+  pub too_many : 4096 < count → Err (ShortBuffer needing 4096) ≡ list_fits count words
   unfolding list_fits list_rules in_order demand after
   too_many h = rw (lt-leb count 4096 h)
 
   module _ (few : count ≤ 4096) where
-    pub too_short : words / 9 < count → Refused (ShortBuffer needing count) ≡ list_fits count words
+    pub too_short : words / 9 < count → Err (ShortBuffer needing count) ≡ list_fits count words
     unfolding list_fits list_rules in_order demand after
     too_short h = rw (le-leb count 4096 few, lt-leb count (words / 9) h)
 
-    pub taken : count ≤ words / 9 → Accepted ≡ list_fits count words
+    pub taken : count ≤ words / 9 → Ok tt ≡ list_fits count words
     unfolding list_fits list_rules in_order demand after
     taken h = rw (le-leb count 4096 few, le-leb count (words / 9) h)
 
 -- exactly when
-pub taken_exactly : (count words : ℕ) → (list_fits count words ≡ Accepted) ↔ ((count ≤ 4096) × (count ≤ words / 9))
+pub taken_exactly : (count words : ℕ) → (list_fits count words ≡ Ok tt) ↔ ((count ≤ 4096) × (count ≤ words / 9))
 unfolding list_fits list_rules
 taken_exactly count words = ((λ e. by ((accepted_exactly (list_rules count words)).0 e)), (λ h. sym (taken count words h.0 h.1)))
   where
@@ -44,16 +43,16 @@ taken_exactly count words = ((λ e. by ((accepted_exactly (list_rules count word
     by (both few (both room none)) = (leb-true count 4096 few, leb-true count (words / 9) room)
 
 module _ (L : Layout) (image nodes area : List ℕ) where
-  pub area_left : (r : Refusal) → Refused r ≡ list_fits (length nodes) (length area) → area ≡ area_of L image nodes area
+  pub area_left : (r : Refusal) → Err r ≡ list_fits (length nodes) (length area) → area ≡ area_of L image nodes area
   unfolding area_of
   area_left r e = sym (ends _ _ _ r (sym e))
 
-  pub area_filled : Accepted ≡ list_fits (length nodes) (length area) → fronted (places_of L image nodes) area ≡ area_of L image nodes area
+  pub area_filled : Ok tt ≡ list_fits (length nodes) (length area) → fronted (places_of L image nodes) area ≡ area_of L image nodes area
   unfolding area_of
   area_filled e = sym (goes _ _ _ (sym e))
 
 -- an empty list leaves the area
-pub area_kept : (L : Layout) (image nodes area : List ℕ) → length nodes ≤ 0 → Accepted ≡ list_fits (length nodes) (length area) → area ≡ area_of L image nodes area
+pub area_kept : (L : Layout) (image nodes area : List ℕ) → length nodes ≤ 0 → Ok tt ≡ list_fits (length nodes) (length area) → area ≡ area_of L image nodes area
 unfolding joined
 area_kept L image [] area h e = area_filled L image [] area e
 area_kept L image (n ∷ ns) area h e = absurd (omega arith)
@@ -61,7 +60,7 @@ area_kept L image (n ∷ ns) area h e = absurd (omega arith)
 -- the area at exit, part by part
 module _ (L : Layout) (image nodes area : List ℕ) where
   -- the place of a number that is taken
-  pub place_is : list_fits (length nodes) (length area) ≡ Accepted → (i : ℕ) → i < length nodes → part (area_of L image nodes area) (9 * i) 9 ≡ place_of L image (get_or nodes i 0)
+  pub place_is : list_fits (length nodes) (length area) ≡ Ok tt → (i : ℕ) → i < length nodes → part (area_of L image nodes area) (9 * i) 9 ≡ place_of L image (get_or nodes i 0)
   unfolding part
   place_is e i h = ap (λ (s : List ℕ). take 9 (drop (9 * i) s)) (sym (area_filled L image nodes area (sym e))) ∙ piece_at (place_of L image) 9 (place_length L image) nodes _ i h
 
@@ -69,12 +68,12 @@ module _ (L : Layout) (image nodes area : List ℕ) where
   long = pieces_length (place_of L image) 9 (place_length L image) nodes
 
   -- what holds of the area where the list is refused, and where it is taken
-  either : (P : List ℕ → Type 0) → P area → (list_fits (length nodes) (length area) ≡ Accepted → P (fronted (places_of L image nodes) area)) → P (area_of L image nodes area)
+  either : (P : List ℕ → Type 0) → P area → (list_fits (length nodes) (length area) ≡ Ok tt → P (fronted (places_of L image nodes) area)) → P (area_of L image nodes area)
   either P p q = by (list_fits (length nodes) (length area)) refl
     where
       by : (v : Verdict) → list_fits (length nodes) (length area) ≡ v → P (area_of L image nodes area)
-      by Accepted e = subst P (area_filled L image nodes area (sym e)) (q e)
-      by (Refused r) e = subst P (area_left L image nodes area r (sym e)) p
+      by (Ok tt) e = subst P (area_filled L image nodes area (sym e)) (q e)
+      by (Err r) e = subst P (area_left L image nodes area r (sym e)) p
 
   pub past_stays : drop (9 * length nodes) (area_of L image nodes area) ≡ drop (9 * length nodes) area
   past_stays =

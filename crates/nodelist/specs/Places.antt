@@ -1,21 +1,22 @@
 -- Document 02, 3/13: a list of nodes in one call. Assumes nothing: these are definitions.
-use Rattle.std.specs.Prelude.{ℕ, ◌/◌, List, [], ◌∷◌, leb, length}
+use Rattle.std.specs.Prelude.{ℕ, ◌/◌, List, [], ◌∷◌, leb, length, Result, Ok, Err}
 use Rattle.laws.specs.Front.{fronted}
 use Rattle.refusal.specs.declared.Fault.TheVariants.{ShortBuffer}
-use Rattle.refusal.specs.declared.Verdict.{Verdict}
 use Rattle.refusal.specs.Number.{number}
-use Rattle.refusal.specs.Order.{◌needing◌, Rule, rule, in_order, after}
+use Rattle.refusal.specs.Order.{Verdict, ◌needing◌, Rule, rule, in_order, after}
 use Rattle.keys.specs.Search.{joined}
 use Rattle.edition.specs.declared.Layout.{Layout}
-use Rattle.tree.specs.declared.FoundNode.{FoundNode}
-use Rattle.tree.specs.declared.FoundNode.TheVariants.{Found, Absent, Refused}
 use Rattle.tree.specs.Answers.{node_of}
+use Rattle.refusal.specs.declared.Refusal.{Refusal}
+use Rattle.tree.specs.declared.Found.{Found}
+use Rattle.tree.specs.declared.Node.{Node}
+use Rattle.tree.specs.declared.Found.TheVariants.{Absent, Entry}
 
 -- an answer as the nine words of a place: refusal, place, more, found, pages, node, data block, subnode block, parent; 0 for what the answer does not have
-unfoldable pub node_words : FoundNode → List ℕ
-node_words (Found n pages) = 0 ∷ 0 ∷ 0 ∷ 1 ∷ pages ∷ n.node ∷ n.block ∷ n.subnode ∷ n.parent ∷ []
-node_words (Absent pages) = 0 ∷ 0 ∷ 0 ∷ 0 ∷ pages ∷ 0 ∷ 0 ∷ 0 ∷ 0 ∷ []
-node_words (Refused r) = number r.fault ∷ r.place ∷ r.more ∷ 0 ∷ 0 ∷ 0 ∷ 0 ∷ 0 ∷ 0 ∷ []
+unfoldable pub node_words : Result (Found Node) Refusal → List ℕ
+node_words (Ok (Entry n pages)) = 0 ∷ 0 ∷ 0 ∷ 1 ∷ pages ∷ n.node ∷ n.block ∷ n.subnode ∷ n.parent ∷ []
+node_words (Ok (Absent pages)) = 0 ∷ 0 ∷ 0 ∷ 0 ∷ pages ∷ 0 ∷ 0 ∷ 0 ∷ 0 ∷ []
+node_words (Err r) = number r.fault ∷ r.place ∷ r.more ∷ 0 ∷ 0 ∷ 0 ∷ 0 ∷ 0 ∷ 0 ∷ []
 
 -- "every place in the result equals what the single lookup gives for that number", by the layout of the node tree
 abbrev pub place_of : Layout → List ℕ → ℕ → List ℕ

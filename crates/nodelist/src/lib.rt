@@ -36,7 +36,7 @@ fn put_words(
 }
 
 // An answer at the front of the words.
-fn put_answer(answer: FoundNode, words: &mut [u64])
+fn put_answer(answer: Result<Found<Node>, Refusal>, words: &mut [u64])
     requires { 9 ≤ length words.old }
     ensures { words.new ≡ fronted (node_words answer) words.old }
 {
@@ -47,9 +47,9 @@ fn put_answer(answer: FoundNode, words: &mut [u64])
         parent: 0,
     };
     match answer {
-        FoundNode::Found(n, pages) => put_words(0, 0, 0, 1, pages, n, words),
-        FoundNode::Absent(pages) => put_words(0, 0, 0, 0, pages, none, words),
-        FoundNode::Refused(r) => {
+        Ok(Found::Entry(n, pages)) => put_words(0, 0, 0, 1, pages, n, words),
+        Ok(Found::Absent(pages)) => put_words(0, 0, 0, 0, pages, none, words),
+        Err(r) => {
             let fault = r.fault;
             let number = refusal::number_of(fault) as u64;
             put_words(number, r.place, r.more, 0, 0, none, words)
@@ -64,7 +64,7 @@ fn fill(image: &[u8], l: Layout, nodes: &[u64], places: &mut [u64])
     ensures { places.new ≡ fronted (places_of l image.now nodes.now) places.old }
 {
     let start = tree::check_start(image, l);
-    let mut way = Way::Nowhere(0);
+    let mut way = Ok(Found::Absent(0));
     let mut i: usize = 0;
     while i < nodes.len() {
         let node = nodes[i];
@@ -77,9 +77,9 @@ fn fill(image: &[u8], l: Layout, nodes: &[u64], places: &mut [u64])
 
 // 17, with the number of places that there may be, or must be.
 fn short_area(places: u64) -> Verdict
-    ensures { result ≡ Verdict.Refused (Fault.ShortBuffer needing places) }
+    ensures { result ≡ Err (Fault.ShortBuffer needing places) }
 {
-    Verdict::Refused(Refusal {
+    Err(Refusal {
         fault: Fault::ShortBuffer,
         place: 0,
         more: places,
@@ -102,5 +102,5 @@ pub fn find_nodes(image: &[u8], l: Layout, nodes: &[u64], places: &mut [u64]) ->
     if 0 < count {
         fill(image, l, nodes, places);
     }
-    Verdict::Accepted
+    Ok(())
 }

@@ -5,7 +5,6 @@ use mathlib.Core.Bool.{Bool, true, false}
 use mathlib.Core.List.{List}
 use native.Mathlib.Omega.{arith}
 use Rattle.refusal.specs.declared.Fault.TheVariants.{PageOffset}
-use Rattle.refusal.specs.declared.Verdict.TheVariants.{Accepted, Refused}
 use Rattle.refusal.specs.Order.{◌at◌, in_order}
 use Rattle.header.specs.Header.{file_end}
 use Rattle.header.specs.End.{AlikeToEnd}
@@ -15,6 +14,7 @@ use Rattle.page.specs.declared.Link.{Link}
 use Rattle.page.specs.Page.{page, offset_fits, page_fits}
 use Rattle.page.proofs.PageLaws.{offset_ends, page_rules_lem, page_ends, rules_agree}
 use Rattle.page.proofs.Exactly.{page_exactly}
+use Rattle.std.specs.Prelude.{Ok, Err}
 
 module _ (L : Layout) (one other : List ℕ) (alike : AlikeToEnd one other) (p : Link) where
   offset_alike : offset_fits one p.offset ≡ offset_fits other p.offset
@@ -34,13 +34,13 @@ module _ (L : Layout) (one other : List ℕ) (alike : AlikeToEnd one other) (p :
           ∙ sym (page_rules_lem L other p)
       by false e = sym (page_ends L one p e) ∙ page_ends L other p (sym offset_alike ∙ e)
 
-  pub page_same : page_fits L one p ≡ Accepted → page one p.offset ≡ page other p.offset
+  pub page_same : page_fits L one p ≡ Ok tt → page one p.offset ≡ page other p.offset
   page_same t = same_inside ((page_exactly L one p).0 t).ends
 
 -- a page that passes the file's end is refused with 6, whatever its bytes
-pub page_behind : (L : Layout) (image : List ℕ) (p : Link) → file_end image < p.offset + 512 → page_fits L image p ≡ Refused (PageOffset at p.offset)
+pub page_behind : (L : Layout) (image : List ℕ) (p : Link) → file_end image < p.offset + 512 → page_fits L image p ≡ Err (PageOffset at p.offset)
 page_behind L image p h = by (offset_fits image p.offset) refl
   where
-    by : (b : Bool) → offset_fits image p.offset ≡ b → page_fits L image p ≡ Refused (PageOffset at p.offset)
+    by : (b : Bool) → offset_fits image p.offset ≡ b → page_fits L image p ≡ Err (PageOffset at p.offset)
     by true e = absurd (omega (arith, offset_ends image p.offset e))
     by false e = sym (page_ends L image p e)

@@ -10,7 +10,6 @@ use borrow.Author.Tests.{leb-true, eqb-true, le-leb, eq-eqb}
 use Rattle.laws.proofs.Tests.{and_both, both_and, or_right}
 use Rattle.le.specs.Bytes.{field, byte}
 use Rattle.refusal.specs.declared.Refusal.{Refusal}
-use Rattle.refusal.specs.declared.Verdict.TheVariants.{Accepted, Refused}
 use Rattle.refusal.specs.Order.{AllHold, both, FirstFault}
 use Rattle.refusal.proofs.OrderLaws.{accepted_exactly, refused_exactly}
 use Rattle.keys.proofs.Climbs.{ordered_exactly}
@@ -23,6 +22,7 @@ use Rattle.page.specs.Page.{signature, page, offset_fits, kind_fits, number_fits
 use Rattle.page.specs.Sound.{Wanted, MayBeEmpty, BytesSound, PageSound}
 use Rattle.page.proofs.KeyLaws.{climbing_of, of_climbing}
 use Rattle.page.proofs.PageLaws.{counts_of}
+use Rattle.std.specs.Prelude.{Ok, Err}
 
 wanted_of : (w : Level) (l : ℕ) → level_fits w l ≡ true → Wanted w l
 unfolding level_fits
@@ -114,7 +114,7 @@ of_sound L image p h =
 pub rules_exactly : (L : Layout) (image : List ℕ) (p : Link) → AllHold (page_rules L image p) ↔ PageSound L image p
 rules_exactly L image p = (sound_of L image p, of_sound L image p)
 
-pub page_exactly : (L : Layout) (image : List ℕ) (p : Link) → (page_fits L image p ≡ Accepted) ↔ PageSound L image p
+pub page_exactly : (L : Layout) (image : List ℕ) (p : Link) → (page_fits L image p ≡ Ok tt) ↔ PageSound L image p
 unfolding page_fits
 page_exactly L image p = (
   (λ e. sound_of L image p ((accepted_exactly (page_rules L image p)).0 e)),
@@ -122,6 +122,6 @@ page_exactly L image p = (
 )
 
 -- a refusal names the first fault: its test fails, and each test before it holds
-pub page_first_fault : (L : Layout) (image : List ℕ) (p : Link) (r : Refusal) → (page_fits L image p ≡ Refused r) ↔ FirstFault (page_rules L image p) r
+pub page_first_fault : (L : Layout) (image : List ℕ) (p : Link) (r : Refusal) → (page_fits L image p ≡ Err r) ↔ FirstFault (page_rules L image p) r
 unfolding page_fits
 page_first_fault L image p r = refused_exactly (page_rules L image p) r

@@ -13,12 +13,10 @@ use Rattle.laws.proofs.Tests.{and_both}
 use Rattle.le.specs.Bytes.{field, Bytes}
 use Rattle.le.proofs.FieldLaws.{part_is, part_length}
 use Rattle.le.proofs.ByteLaws.{part_bytes}
-use Rattle.refusal.specs.declared.Verdict.TheVariants.{Accepted, Refused}
 use Rattle.refusal.specs.declared.Fault.TheVariants.{PageOffset}
 use Rattle.refusal.specs.Order.{◌at◌, in_order, AllHold, both}
 use Rattle.refusal.proofs.OrderLaws.{test_goes, test_ends, accepted_exactly}
 use Rattle.keys.specs.declared.Shape.{Shape}
-use Rattle.keys.specs.declared.Order.TheVariants.{Climbing}
 use Rattle.keys.specs.Plain.{All}
 use Rattle.keys.specs.Records.{cleared, significant, key_of, records, keys_of, RecordsIn}
 use Rattle.keys.specs.Range.{ordered}
@@ -34,6 +32,7 @@ use Rattle.page.specs.Layout.{as_given, compared, entry_size, most_room, shape}
 use Rattle.edition.specs.Fair.{FairLayout}
 use Rattle.page.specs.Page.{page, count_of, room_of, size_of, level_of, entries, number_in, key_in, offset_fits, level_fits, may_be_empty, counts_fit, bytes_rules, six_to_ten, keys_in, key_rules, page_rules, page_fits}
 use Rattle.page.proofs.KeyLaws.{climbing_of}
+use Rattle.std.specs.Prelude.{Ok, Err}
 
 -- a number that a call is given
 pub given_whole : (L : Layout) (number : ℕ) → L.sought ≡ 8 → number < 18446744073709551616 → number ≡ as_given L number
@@ -192,14 +191,14 @@ page_rules_lem L image p = refl
 
 pub page_goes : (L : Layout) (image : List ℕ) (p : Link) → offset_fits image p.offset ≡ true → in_order (bytes_rules L p (page image p.offset) ++ key_rules p (keys_in L (page image p.offset))) ≡ page_fits L image p
 unfolding page_fits page_rules six_to_ten in_order
-page_goes L image p e = sym (test_goes Refused _ _ _ e)
+page_goes L image p e = sym (test_goes Err _ _ _ e)
 
-pub page_ends : (L : Layout) (image : List ℕ) (p : Link) → offset_fits image p.offset ≡ false → Refused (PageOffset at p.offset) ≡ page_fits L image p
+pub page_ends : (L : Layout) (image : List ℕ) (p : Link) → offset_fits image p.offset ≡ false → Err (PageOffset at p.offset) ≡ page_fits L image p
 unfolding page_fits page_rules six_to_ten in_order
-page_ends L image p e = sym (test_ends Refused _ _ (in_order (bytes_rules L p (page image p.offset) ++ key_rules p (keys_in L (page image p.offset)))) e)
+page_ends L image p e = sym (test_ends Err _ _ (in_order (bytes_rules L p (page image p.offset) ++ key_rules p (keys_in L (page image p.offset)))) e)
 
 -- an accepted page: its counts fit, and its keys climb
-pub all_of_page : (L : Layout) (image : List ℕ) (p : Link) → page_fits L image p ≡ Accepted → AllHold (page_rules L image p)
+pub all_of_page : (L : Layout) (image : List ℕ) (p : Link) → page_fits L image p ≡ Ok tt → AllHold (page_rules L image p)
 unfolding page_fits
 all_of_page L image p e = (accepted_exactly (page_rules L image p)).0 e
 
@@ -212,7 +211,7 @@ unfolding page_rules six_to_ten bytes_rules
 page_counts L image p (both o (both k (both n (both c (both t s))))) = t
 
 pub page_keys : (L : Layout) (image : List ℕ) (p : Link) → AllHold (page_rules L image p)
-    → ordered p.range (map (key_in L) (entries L (page image p.offset))) ≡ Climbing
+    → ordered p.range (map (key_in L) (entries L (page image p.offset))) ≡ Ok tt
 unfolding page_rules six_to_ten bytes_rules keys_in
 page_keys L image p (both o (both k (both n (both c (both t s))))) = climbing_of p _ s
 

@@ -1,8 +1,7 @@
 -- Document 02, 2/13: which key rule a page breaks, and at which entry. Assumes nothing: these are definitions.
-use Rattle.std.specs.Prelude.{ℕ, ◌≡◌, ◌↔◌, List}
+use Rattle.std.specs.Prelude.{ℕ, ◌≡◌, ◌↔◌, List, Ok, Err}
 use Rattle.refusal.specs.declared.Fault.TheVariants.{KeyOrder, KeyRange}
 use Rattle.refusal.specs.declared.Refusal.{Refusal}
-use Rattle.refusal.specs.declared.Verdict.TheVariants.{Accepted, Refused}
 use Rattle.refusal.specs.Order.{at_entry, AllHold}
 use Rattle.keys.specs.Faults.{OutOfOrder, OutOfRange}
 use Rattle.edition.specs.declared.Layout.{Layout}
@@ -19,12 +18,12 @@ module _ (L : Layout) (image : List ℕ) (p : Link) where
 
   pub record KeyFaultsTold : Type 0 where
     -- 11 and 21 say just that, with the index of the entry beside the page's offset
-    pub eleven : (i : ℕ) → (page_fits L image p ≡ Refused (at_entry KeyOrder p.offset i)) ↔ BreaksOrder i
-    pub twenty_one : (i : ℕ) → (page_fits L image p ≡ Refused (at_entry KeyRange p.offset i)) ↔ BreaksRange i
+    pub eleven : (i : ℕ) → (page_fits L image p ≡ Err (at_entry KeyOrder p.offset i)) ↔ BreaksOrder i
+    pub twenty_one : (i : ℕ) → (page_fits L image p ≡ Err (at_entry KeyRange p.offset i)) ↔ BreaksRange i
     -- they come in no other form
-    pub eleven_form : (r : Refusal) → page_fits L image p ≡ Refused r → r.fault ≡ KeyOrder → r ≡ at_entry KeyOrder p.offset r.more
-    pub twenty_one_form : (r : Refusal) → page_fits L image p ≡ Refused r → r.fault ≡ KeyRange → r ≡ at_entry KeyRange p.offset r.more
+    pub eleven_form : (r : Refusal) → page_fits L image p ≡ Err r → r.fault ≡ KeyOrder → r ≡ at_entry KeyOrder p.offset r.more
+    pub twenty_one_form : (r : Refusal) → page_fits L image p ≡ Err r → r.fault ≡ KeyRange → r ≡ at_entry KeyRange p.offset r.more
     -- the first entry has none before it
-    pub never_first : page_fits L image p ≡ Refused (at_entry KeyOrder p.offset 0) → ⊥
+    pub never_first : page_fits L image p ≡ Err (at_entry KeyOrder p.offset 0) → ⊥
     -- a page that passes 6 to 10 is accepted exactly when neither comes, of any entry
-    pub neither : AllHold (six_to_ten L image p) → (page_fits L image p ≡ Accepted) ↔ ((i : ℕ) → (BreaksOrder i → ⊥) × (BreaksRange i → ⊥))
+    pub neither : AllHold (six_to_ten L image p) → (page_fits L image p ≡ Ok tt) ↔ ((i : ℕ) → (BreaksOrder i → ⊥) × (BreaksRange i → ⊥))

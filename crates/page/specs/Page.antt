@@ -3,9 +3,8 @@ use Rattle.std.specs.Prelude.{ℕ, ◌+◌, ◌/◌, ◌%◌, Bool, false, ◌&&
 use Rattle.std.specs.Int.Bits.{bit_xor}
 use Rattle.le.specs.Bytes.{part, field, byte}
 use Rattle.crc.specs.Checksum.{checksum}
-use Rattle.refusal.specs.declared.Verdict.{Verdict}
 use Rattle.refusal.specs.declared.Fault.TheVariants.{PageOffset, PageKind, PageNumber, PageChecksum, PageCounts, KeyOrder, KeyRange}
-use Rattle.refusal.specs.Order.{◌at◌, at_entry, Rule, rule, in_order}
+use Rattle.refusal.specs.Order.{Verdict, ◌at◌, at_entry, Rule, rule, in_order}
 use Rattle.keys.specs.Records.{records, key_of}
 use Rattle.keys.specs.Range.{in_range}
 use Rattle.header.specs.Header.{file_end}

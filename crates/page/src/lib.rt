@@ -200,9 +200,9 @@ fn check_keys(l: Layout, p: Link, page: &[u8]) -> Verdict
     let range = p.range;
     let offset = p.offset;
     match keys::check_keys(page, shape, count, range) {
-        Order::Climbing => Verdict::Accepted,
-        Order::Unordered(i) => refusal::refused_entry(Fault::KeyOrder, offset, i as u64),
-        Order::Outside(i) => refusal::refused_entry(Fault::KeyRange, offset, i as u64),
+        Ok(()) => Ok(()),
+        Err(Disorder::Unordered(i)) => refusal::refused_entry(Fault::KeyOrder, offset, i as u64),
+        Err(Disorder::Outside(i)) => refusal::refused_entry(Fault::KeyRange, offset, i as u64),
     }
 }
 

@@ -3,7 +3,6 @@ use Prim.Native.Nat.{ℕ, ◌%◌}
 use mathlib.Core.Path.{◌≡◌, refl, sym, ap, ◌∙◌}
 use mathlib.Core.Bool.{Bool, true, false, cond}
 use mathlib.Core.Logic.{◌↔◌}
-use mathlib.Core.Option.{Option, none, some}
 use mathlib.Core.List.{List, map}
 use native.Mathlib.Omega.{arith}
 use lib.Dec.{eqb}
@@ -21,58 +20,59 @@ use Rattle.heap.specs.Items.{item_fits, bad_item}
 use Rattle.heaptree.specs.Scan.{TreeAsScanned}
 use Rattle.heaptree.proofs.ShownLaws.{read_says, case_none, case_some}
 use Rattle.heaptree.proofs.ScanLaws.{scan_holds as tree-holds}
-use Rattle.property.specs.declared.Property.{Property}
-use Rattle.property.specs.declared.Property.TheVariants.{Number, Empty, Item, Subnode, Absent, Refused}
 use Rattle.property.specs.Context.{properties}
 use Rattle.property.specs.Lookup.{in_place, value_of, property_from, property}
 use Rattle.property.specs.Scan.{PropertiesSound, id_of, property_records, WrongValue, PropertyScanHolds}
 use Rattle.property.proofs.ContextLaws.{context_exactly, property_on}
+use Rattle.std.specs.Prelude.{Some, None, Result, Ok, Err, Option}
+use Rattle.property.specs.declared.Property.{Property}
+use Rattle.property.specs.declared.Property.TheVariants.{Empty, Item, Number, Subnode}
 
 -- a leaf record is never answered absent, and refused only where its value names no item
 module _ (type value : ℕ) where
-  abbrev outcome : Bool → Bool → Bool → Bool → Property
+  abbrev outcome : Bool → Bool → Bool → Bool → Result (Option Property) Refusal
   outcome inside empty named there =
-      cond inside (Number type value) (cond empty (Empty type) (cond named (after Refused (demand there bad_item) (Item type value)) (Subnode type value)))
+      cond inside (Ok (Some (Number type value))) (cond empty (Ok (Some (Empty type))) (cond named (after Err (demand there bad_item) (Ok (Some (Item type value)))) (Ok (Some (Subnode type value)))))
 
-  outcome_there : (inside empty named there : Bool) → outcome inside empty named there ≡ Absent → ⊥
+  outcome_there : (inside empty named there : Bool) → outcome inside empty named there ≡ Ok None → ⊥
   outcome_there true empty named there e = let clash : ◌≡◌ {A = ℕ} 0 1 = cc in omega arith
   outcome_there false true named there e = let clash : ◌≡◌ {A = ℕ} 0 1 = cc in omega arith
   outcome_there false false false there e = let clash : ◌≡◌ {A = ℕ} 0 1 = cc in omega arith
   outcome_there false false true true e =
-      let goes = sym (test_goes Refused true bad_item (Item type value) refl) ∙ e in
+      let goes = sym (test_goes Err true bad_item (Ok (Some (Item type value))) refl) ∙ e in
       let clash : ◌≡◌ {A = ℕ} 0 1 = cc in omega arith
   outcome_there false false true false e =
-      let ends = sym (test_ends Refused false bad_item (Item type value) refl) ∙ e in
+      let ends = sym (test_ends Err false bad_item (Ok (Some (Item type value))) refl) ∙ e in
       let clash : ◌≡◌ {A = ℕ} 0 1 = cc in omega arith
 
-  outcome_refused : (inside empty named there : Bool) (r : Refusal) → outcome inside empty named there ≡ Refused r
+  outcome_refused : (inside empty named there : Bool) (r : Refusal) → outcome inside empty named there ≡ Err r
       → (named ≡ true) × (there ≡ false) × (r ≡ bad_item)
   outcome_refused true empty named there r e = let clash : ◌≡◌ {A = ℕ} 0 1 = cc in absurd (omega arith)
   outcome_refused false true named there r e = let clash : ◌≡◌ {A = ℕ} 0 1 = cc in absurd (omega arith)
   outcome_refused false false false there r e = let clash : ◌≡◌ {A = ℕ} 0 1 = cc in absurd (omega arith)
   outcome_refused false false true true r e =
-      let goes = sym (test_goes Refused true bad_item (Item type value) refl) ∙ e in
+      let goes = sym (test_goes Err true bad_item (Ok (Some (Item type value))) refl) ∙ e in
       let clash : ◌≡◌ {A = ℕ} 0 1 = cc in absurd (omega arith)
   outcome_refused false false true false r e =
-      let ends = sym (test_ends Refused false bad_item (Item type value) refl) ∙ e in
+      let ends = sym (test_ends Err false bad_item (Ok (Some (Item type value))) refl) ∙ e in
       (refl, refl, cc)
 
 -- what a leaf record says
-abbrev told : List ℕ → List ℕ → Property
+abbrev told : List ℕ → List ℕ → Result (Option Property) Refusal
 told block entry = value_of block (field entry 2 2) (field entry 4 4)
 
 module _ (block : List ℕ) where
-  answer_there : (o : Option (List ℕ)) (n : ℕ) → property_from block (answer o n) ≡ Absent → o ≡ none
+  answer_there : (o : Option (List ℕ)) (n : ℕ) → property_from block (answer o n) ≡ Ok None → o ≡ None
   unfolding value_of
-  answer_there none n e = refl
-  answer_there (some entry) n e =
-      absurd (outcome_there (field entry 2 2) (field entry 4 4) (in_place (field entry 2 2)) (eqb (field entry 4 4) 0) (eqb (field entry 4 4 % 32) 0) (item_fits block (field entry 4 4)) (sym (case_some (told block) Absent Refused entry n) ∙ e))
+  answer_there None n e = refl
+  answer_there (Some entry) n e =
+      absurd (outcome_there (field entry 2 2) (field entry 4 4) (in_place (field entry 2 2)) (eqb (field entry 4 4) 0) (eqb (field entry 4 4 % 32) 0) (item_fits block (field entry 4 4)) (sym (case_some (told block) (Ok None) Err entry n) ∙ e))
 
-  answer_refused : (id : ℕ) (r : Refusal) (o : Option (List ℕ)) (n : ℕ) → with_key id_of id (property_records block) ≡ o → property_from block (answer o n) ≡ Refused r → WrongValue block id r
+  answer_refused : (id : ℕ) (r : Refusal) (o : Option (List ℕ)) (n : ℕ) → with_key id_of id (property_records block) ≡ o → property_from block (answer o n) ≡ Err r → WrongValue block id r
   unfolding value_of
-  answer_refused id r none n f e = let none-there = case_none (told block) Absent Refused n in let clash : ◌≡◌ {A = ℕ} 0 1 = cc in absurd (omega arith)
-  answer_refused id r (some entry) n f e =
-      let wrong = outcome_refused (field entry 2 2) (field entry 4 4) (in_place (field entry 2 2)) (eqb (field entry 4 4) 0) (eqb (field entry 4 4 % 32) 0) (item_fits block (field entry 4 4)) r (sym (case_some (told block) Absent Refused entry n) ∙ e) in
+  answer_refused id r None n f e = let none-there = case_none (told block) (Ok None) Err n in let clash : ◌≡◌ {A = ℕ} 0 1 = cc in absurd (omega arith)
+  answer_refused id r (Some entry) n f e =
+      let wrong = outcome_refused (field entry 2 2) (field entry 4 4) (in_place (field entry 2 2)) (eqb (field entry 4 4) 0) (eqb (field entry 4 4 % 32) 0) (item_fits block (field entry 4 4)) r (sym (case_some (told block) (Ok None) Err entry n) ∙ e) in
       record { entry = entry; found = f; names = eqb-true _ _ wrong.0; wrong = wrong.1; number = wrong.2 }
 
 -- the tree's theorem, read as properties
@@ -85,10 +85,10 @@ module _ (block : List ℕ) (sound : PropertiesSound block) where
       property_on block id ((context_exactly block).1 (sound.heap, record { kind = sound.kind; root = sound.tree.record_fits_lem }))
       ∙ read_says _ _ _ _ _ (tree.answers id)
 
-  scan_absent : (id : ℕ) → (property block id ≡ Absent) ↔ Missing id (map id_of (property_records block))
+  scan_absent : (id : ℕ) → (property block id ≡ Ok None) ↔ Missing id (map id_of (property_records block))
   scan_absent id = (
     (λ e. (missing_exactly id_of id (property_records block)).0 (answer_there block (with_key id_of id (property_records block)) 0 (sym (scan_answers id) ∙ e))),
-    (λ m. scan_answers id ∙ ap (λ o. property_from block (answer o 0)) ((missing_exactly id_of id (property_records block)).1 m) ∙ case_none (told block) Absent Refused 0),
+    (λ m. scan_answers id ∙ ap (λ o. property_from block (answer o 0)) ((missing_exactly id_of id (property_records block)).1 m) ∙ case_none (told block) (Ok None) Err 0),
   )
 
 -- the theorem: a lookup in a sound tree answers as the plain scan does

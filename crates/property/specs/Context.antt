@@ -1,8 +1,7 @@
 -- Document 01, "Heap and properties": what is tested before the property tree. Assumes nothing: these are definitions.
 use Rattle.std.specs.Prelude.{ℕ, ◌≡◌, List, ◌∷◌, ◌++◌, eqb}
-use Rattle.refusal.specs.declared.Verdict.{Verdict}
 use Rattle.refusal.specs.declared.Fault.TheVariants.{PropertyTree}
-use Rattle.refusal.specs.Order.{◌at◌, Rule, rule, in_order}
+use Rattle.refusal.specs.Order.{Verdict, ◌at◌, Rule, rule, in_order}
 use Rattle.heap.specs.Shape.{client_kind, user_root, shape_rules}
 use Rattle.heaptree.specs.declared.HeapTree.{HeapTree}
 use Rattle.heaptree.specs.Root.{root_rules, Rooted}

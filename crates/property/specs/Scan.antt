@@ -1,6 +1,5 @@
 -- The plain scan of a property tree, and what a lookup in a sound one answers. Assumes nothing: these are definitions.
-use Rattle.std.specs.Prelude.{ℕ, ◌%◌, ◌≡◌, false, ◌↔◌, List, map}
-use Rattle.std.proofs.Math.Option.{some}
+use Rattle.std.specs.Prelude.{ℕ, ◌%◌, ◌≡◌, false, ◌↔◌, List, map, Some, None, Ok, Err}
 use Rattle.le.specs.Bytes.{field}
 use Rattle.refusal.specs.declared.Refusal.{Refusal}
 use Rattle.keys.specs.Plain.{Ascending, Missing}
@@ -11,7 +10,6 @@ use Rattle.heap.specs.Items.{item_fits, bad_item}
 use Rattle.heaptree.specs.Value.{record_key}
 use Rattle.heaptree.specs.Sound.{HeapTreeSound}
 use Rattle.heaptree.specs.Scan.{leaf_records}
-use Rattle.property.specs.declared.Property.TheVariants.{Absent, Refused}
 use Rattle.property.specs.Context.{properties}
 use Rattle.property.specs.Lookup.{property_from, property}
 
@@ -33,7 +31,7 @@ module _ (block : List ℕ) where
   -- the record that the scan finds names an item that the heap has not: the one refusal that a sound tree leaves
   pub record WrongValue (id : ℕ) (refusal : Refusal) : Type 0 where
     pub entry : List ℕ
-    pub found : with_key id_of id property_records ≡ some entry
+    pub found : with_key id_of id property_records ≡ Some entry
     pub names : field entry 4 4 % 32 ≡ 0
     pub wrong : item_fits block (field entry 4 4) ≡ false
     pub number : refusal ≡ bad_item
@@ -45,9 +43,9 @@ module _ (block : List ℕ) where
     -- that is the only one with the id, since the ids of the leaf records strictly ascend
     pub ascending : Ascending (map id_of property_records)
     -- absent exactly when no leaf record has the id
-    pub absent_iff : (id : ℕ) → (property block id ≡ Absent) ↔ Missing id (map id_of property_records)
+    pub absent_iff : (id : ℕ) → (property block id ≡ Ok None) ↔ Missing id (map id_of property_records)
     -- refused only for the value of the record found, never for the tree
-    pub refused : (id : ℕ) (refusal : Refusal) → property block id ≡ Refused refusal → WrongValue id refusal
+    pub refused : (id : ℕ) (refusal : Refusal) → property block id ≡ Err refusal → WrongValue id refusal
 
 -- a heap whose whole property tree is sound is answered as by the plain scan
 abbrev pub PropertyScanHolds : Type 0

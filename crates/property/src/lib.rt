@@ -49,7 +49,7 @@ fn test_context(block: &[u8]) -> Verdict
     ensures { result ≡ context_test block.now }
 {
     let shape = heap::test_heap(block);
-    let Verdict::Accepted = shape else {
+    let Ok(()) = shape else {
         return shape;
     };
     check_context(block)
@@ -62,53 +62,53 @@ fn in_place(code: u16) -> bool
 }
 
 // What a leaf record's type code and value say; 19 where the value names no item of the heap.
-fn value_of(block: &[u8], code: u16, value: u32) -> Property
+fn value_of(block: &[u8], code: u16, value: u32) -> Result<Option<Property>, Refusal>
     requires { Heap block.now }
     ensures { result ≡ value_of block.now code value }
 {
     if in_place(code) {
-        return Property::Number(code, value);
+        return Ok(Some(Property::Number(code, value)));
     }
     if value == 0 {
-        return Property::Empty(code);
+        return Ok(Some(Property::Empty(code)));
     }
     if value % 32 != 0 {
-        return Property::Subnode(code, value);
+        return Ok(Some(Property::Subnode(code, value)));
     }
     if !heap::item_fits(block, value) {
-        return Property::Refused(Refusal {
+        return Err(Refusal {
             fault: Fault::HeapItem,
             place: 0,
             more: 0,
         });
     }
-    Property::Item(code, value)
+    Ok(Some(Property::Item(code, value)))
 }
 
 // What the leaf record with the id says, in an accepted property context.
-fn find_in_context(block: &[u8], id: u16) -> Property
+fn find_in_context(block: &[u8], id: u16) -> Result<Option<Property>, Refusal>
     requires { Heap block.now × Context block.now }
     ensures { result ≡ property_from block.now (from_root properties block.now (user_root block.now) id) }
 {
     let found = heaptree::find_from(block, properties(), heap::user_root(block), id as u64);
     match found {
-        FoundRecord::At(place) => value_of(
+        Ok(Some(place)) => value_of(
             block,
             le::field2(block, place + 2),
             le::field4(block, place + 4),
         ),
-        FoundRecord::Absent => Property::Absent,
-        FoundRecord::Refused(refusal) => Property::Refused(refusal),
+        Ok(None) => Ok(None),
+        Err(refusal) => Err(refusal),
     }
 }
 
 // The property with the id, of a block that need not be a heap.
-pub fn find_property(block: &[u8], id: u16) -> Property
+pub fn find_property(block: &[u8], id: u16) -> Result<Option<Property>, Refusal>
     ensures { result ≡ property block.now id }
 {
     let verdict = test_context(block);
     match verdict {
-        Verdict::Refused(refusal) => Property::Refused(refusal),
-        Verdict::Accepted => find_in_context(block, id),
+        Err(refusal) => Err(refusal),
+        Ok(()) => find_in_context(block, id),
     }
 }

@@ -9,9 +9,7 @@ use lib.Dec.{leb}
 use borrow.Author.Tests.{leb-true, leb-false}
 use lib.ListN.{length, drop}
 use Rattle.laws.proofs.Tests.{not_both}
-use Rattle.refusal.specs.declared.Verdict.{Verdict}
-use Rattle.refusal.specs.declared.Verdict.TheVariants as verdict
-use Rattle.refusal.specs.Order.{after, AllHold}
+use Rattle.refusal.specs.Order.{Verdict, after, AllHold}
 use Rattle.keys.specs.Plain.{Missing}
 use Rattle.columns.specs.declared.Column.{Column}
 use Rattle.columns.specs.Record.{column_count}
@@ -20,10 +18,6 @@ use Rattle.columns.specs.Sound.{Apart}
 use Rattle.columns.proofs.SeatLaws.{tag_is, unknown_exactly}
 use Rattle.heaptree.specs.declared.HeapTree.{HeapTree}
 use Rattle.table.specs.declared.Table.{Table}
-use Rattle.table.specs.declared.TableAnswer.TheVariants as table
-use Rattle.table.specs.declared.ColumnAnswer.TheVariants as column
-use Rattle.table.specs.declared.FoundRow.{FoundRow}
-use Rattle.table.specs.declared.FoundRow.TheVariants as row
 use Rattle.table.specs.Context.{table_record, table_test, TableSound}
 use Rattle.table.specs.Says.{table_in, table_of, column_of}
 use Rattle.table.specs.RowIndex.{row_index, row_index32, row_id, row_of, IndexSound, row_records}
@@ -31,9 +25,6 @@ use Rattle.table.proofs.ContextLaws.{table_exactly}
 use Rattle.table.proofs.IndexLaws.{table_on, column_on, column_refused}
 use Rattle.table.proofs.SaidLaws.{column_past, column_there}
 use Rattle.table.proofs.RowLaws.{refusal_in, row_answered_exactly, row_scan_holds}
-use Rattle.cells.specs.declared.Counted.TheVariants as count
-use Rattle.cells.specs.declared.Cell.{Cell}
-use Rattle.cells.specs.declared.Cell.TheVariants as cell
 use Rattle.cells.specs.Rows.{Held, rows_named, row_bytes, rows_test, row_count, row_at, count_of}
 use Rattle.cells.specs.Cells.{cell_at, cell_of}
 use Rattle.cells.specs.Tried.{cell_rules}
@@ -41,7 +32,6 @@ use Rattle.cells.proofs.HeldLaws.{rows_exactly, count_on, cell_on}
 use Rattle.cells.proofs.CellLaws as cells-laws
 use Rattle.cells.proofs.TriedLaws as tried
 use Rattle.cells.proofs.WithinLaws.{row_only, cell_within, cell_own}
-use Rattle.rowcells.specs.declared.RowRead.TheVariants as cells
 use Rattle.rowcells.specs.RowCells.{cell_words, row_read}
 use Rattle.rowcells.proofs.Words.{words_injective}
 use Rattle.rowcells.proofs.ReadLaws.{cells_say, place_is, past_stays, area_length, left_alone}
@@ -49,25 +39,29 @@ use Rattle.pst.specs.Meaning.{answered, absent, refuses, refusal_means, table_me
 use Rattle.pst.specs.Outcomes.{table_outcome, column_outcome, count_outcome, cell_outcome, row_outcome, row32_outcome, read_row_outcome, read_row_area}
 use Rattle.pst.specs.Demands.{cell_place_in, RowThere, RowsFound, FifthRequest}
 use Rattle.pst.proofs.Injective.{table_injective, column_injective, count_injective, cell_injective, row_injective, cells_injective}
+use Rattle.std.specs.Prelude.{Option, Some, None, Result, Ok, Err}
+use Rattle.refusal.specs.declared.Refusal.{Refusal}
+use Rattle.cells.specs.declared.Cell.{Cell}
+use Rattle.cells.specs.declared.Cell.TheVariants.{Empty, Item, Number, Subnode}
 
 both_ways : {A B C : Type 0} → A ↔ B → B ↔ C → A ↔ C
 both_ways p q = ((λ a. q.0 (p.0 a)), (λ c. p.1 (q.1 c)))
 
 -- no answer and no refusal are the same
 module _ (block : List ℕ) where
-  said : (v : Verdict) (t : Table) → after table.Refused v (table.Says t) ≡ table.Says t → v ≡ verdict.Accepted
+  said : (v : Verdict) (t : Table) → after Err v (Ok t) ≡ Ok t → v ≡ Ok tt
   unfolding after
-  said verdict.Accepted t e = refl
-  said (verdict.Refused r) t e = cc
+  said (Ok tt) t e = refl
+  said (Err r) t e = cc
 
-  accepted : (table_outcome block ≡ table_means (table.Says (table_in (table_record block)))) ↔ TableSound block
+  accepted : (table_outcome block ≡ table_means (Ok (table_in (table_record block)))) ↔ TableSound block
   unfolding table_outcome table_of
   accepted = (
     (λ e. (table_exactly block).0 (said (table_test block) (table_in (table_record block)) (table_injective _ _ e))),
     (λ s. ap table_means (table_on block ((table_exactly block).1 s))),
   )
 
-  column_found : (i : ℕ) → TableSound block → i < column_count (table_record block) → column_outcome block i ≡ column_means (column.Found (column_at (table_record block) i))
+  column_found : (i : ℕ) → TableSound block → i < column_count (table_record block) → column_outcome block i ≡ column_means (Ok (Some (column_at (table_record block) i)))
   unfolding column_outcome
   column_found i s h = ap column_means (column_on block i ((table_exactly block).1 s) ∙ column_there (table_record block) i (omega (arith, h)))
 
@@ -76,10 +70,10 @@ module _ (block : List ℕ) where
   column_absent i s h = ap column_means (column_on block i ((table_exactly block).1 s) ∙ column_past (table_record block) i (omega (arith, h)))
 
   -- a column that is handed out is one of a sound table
-  handed_out : (i : ℕ) (one : Column) → column_of block i ≡ column.Found one → TableSound block × (i < column_count (table_record block)) × (one ≡ column_at (table_record block) i)
+  handed_out : (i : ℕ) (one : Column) → column_of block i ≡ Ok (Some one) → TableSound block × (i < column_count (table_record block)) × (one ≡ column_at (table_record block) i)
   handed_out i one e = by (table_test block) refl
     where
-      here : table_test block ≡ verdict.Accepted → (b : Bool) → leb (i + 1) (column_count (table_record block)) ≡ b → TableSound block × (i < column_count (table_record block)) × (one ≡ column_at (table_record block) i)
+      here : table_test block ≡ Ok tt → (b : Bool) → leb (i + 1) (column_count (table_record block)) ≡ b → TableSound block × (i < column_count (table_record block)) × (one ≡ column_at (table_record block) i)
       here t true b =
           let h = borrow_leb b in
           let is = sym e ∙ column_on block i t ∙ column_there (table_record block) i h in
@@ -92,10 +86,10 @@ module _ (block : List ℕ) where
           let clash : ◌≡◌ {A = ℕ} 0 1 = cc in absurd (omega arith)
 
       by : (v : Verdict) → table_test block ≡ v → TableSound block × (i < column_count (table_record block)) × (one ≡ column_at (table_record block) i)
-      by verdict.Accepted t = here t (leb (i + 1) (column_count (table_record block))) refl
-      by (verdict.Refused r) t = let is = sym e ∙ column_refused block i r t in let clash : ◌≡◌ {A = ℕ} 0 1 = cc in absurd (omega arith)
+      by (Ok tt) t = here t (leb (i + 1) (column_count (table_record block))) refl
+      by (Err r) t = let is = sym e ∙ column_refused block i r t in let clash : ◌≡◌ {A = ℕ} 0 1 = cc in absurd (omega arith)
 
-  columns_apart : (i j : ℕ) (one other : Column) → (i ≡ j → ⊥) → column_outcome block i ≡ column_means (column.Found one) → column_outcome block j ≡ column_means (column.Found other) → Apart one other
+  columns_apart : (i j : ℕ) (one other : Column) → (i ≡ j → ⊥) → column_outcome block i ≡ column_means (Ok (Some one)) → column_outcome block j ≡ column_means (Ok (Some other)) → Apart one other
   unfolding column_outcome
   columns_apart i j one other d e f =
       let left = handed_out i one (column_injective _ _ e) in
@@ -104,15 +98,15 @@ module _ (block : List ℕ) where
       (subst (λ (c : Column). Apart (column_at (table_record block) i) c) (sym right.2) (left.0.columns.any_two i j left.1 right.1 d))
 
 module _ (block rows : List ℕ) where
-  counted : (v : Verdict) (n : ℕ) → after count.Refused v (count.Rows n) ≡ count.Rows n → v ≡ verdict.Accepted
+  counted : (v : Verdict) (n : ℕ) → after Err v (Ok n) ≡ Ok n → v ≡ Ok tt
   unfolding after
-  counted verdict.Accepted n e = refl
-  counted (verdict.Refused r) n e = cc
+  counted (Ok tt) n e = refl
+  counted (Err r) n e = cc
 
   rows_counted : (count_outcome block rows ≡ answered (row_count (table_record block) (row_bytes block rows) ∷ [])) ↔ (TableSound block × Held block rows (rows_named block))
   unfolding count_outcome count_means count_of
   rows_counted = (
-    (λ e. (rows_exactly block rows).0 (counted (rows_test block rows) (row_count (table_record block) (row_bytes block rows)) (count_injective _ (count.Rows (row_count (table_record block) (row_bytes block rows))) e))),
+    (λ e. (rows_exactly block rows).0 (counted (rows_test block rows) (row_count (table_record block) (row_bytes block rows)) (count_injective _ (Ok (row_count (table_record block) (row_bytes block rows))) e))),
     (λ h. ap count_means (count_on block rows ((rows_exactly block rows).1 h))),
   )
 
@@ -136,21 +130,21 @@ module _ (block rows : List ℕ) where
         ∙ cell_own block rows t.table ((rows_exactly block rows).1 (t.table, t.held)) row t.there i h)
 
 -- answered or absent, and no refusal
-not_refused : (c : Cell) → (refuses (cell_means c) ≡ false) ↔ (tried.refusal_in c ≡ verdict.Accepted)
+not_refused : (c : Result (Option Cell) Refusal) → (refuses (cell_means c) ≡ false) ↔ (tried.refusal_in c ≡ Ok tt)
 unfolding refuses cell_means refusal_means tried.refusal_in
-not_refused (cell.Number value) = ((λ e. refl), (λ e. refl))
-not_refused cell.Empty = ((λ e. refl), (λ e. refl))
-not_refused (cell.Item item) = ((λ e. refl), (λ e. refl))
-not_refused (cell.Subnode subnode) = ((λ e. refl), (λ e. refl))
-not_refused cell.Missing = ((λ e. refl), (λ e. refl))
-not_refused cell.Absent = ((λ e. refl), (λ e. refl))
-not_refused (cell.Refused r) = ((λ e. not_both true refl e), (λ e. cc))
+not_refused (Ok (Some (Number value))) = ((λ e. refl), (λ e. refl))
+not_refused (Ok (Some Empty)) = ((λ e. refl), (λ e. refl))
+not_refused (Ok (Some (Item item))) = ((λ e. refl), (λ e. refl))
+not_refused (Ok (Some (Subnode subnode))) = ((λ e. refl), (λ e. refl))
+not_refused (Ok (Some Missing)) = ((λ e. refl), (λ e. refl))
+not_refused (Ok None) = ((λ e. refl), (λ e. refl))
+not_refused (Err r) = ((λ e. not_both true refl e), (λ e. cc))
 
-row_not_refused : (f : FoundRow) → (refuses (row_means f) ≡ false) ↔ (refusal_in f ≡ verdict.Accepted)
+row_not_refused : (f : Result (Option ℕ) Refusal) → (refuses (row_means f) ≡ false) ↔ (refusal_in f ≡ Ok tt)
 unfolding refuses row_means refusal_means refusal_in
-row_not_refused (row.Row n) = ((λ e. refl), (λ e. refl))
-row_not_refused row.Absent = ((λ e. refl), (λ e. refl))
-row_not_refused (row.Refused r) = ((λ e. not_both true refl e), (λ e. cc))
+row_not_refused (Ok (Some n)) = ((λ e. refl), (λ e. refl))
+row_not_refused (Ok None) = ((λ e. refl), (λ e. refl))
+row_not_refused (Err r) = ((λ e. not_both true refl e), (λ e. cc))
 
 cell_answered : (block rows : List ℕ) (row tag : ℕ) → (refuses (cell_outcome block rows row tag) ≡ false) ↔ AllHold (cell_rules block rows row tag)
 unfolding cell_outcome
@@ -161,7 +155,7 @@ module _ (tree : HeapTree) where
   row_absent_iff : (block : List ℕ) (id : ℕ) → IndexSound tree block → (row_means (row_of tree block id) ≡ absent []) ↔ Missing id (map (row_id tree) (row_records tree block))
   unfolding row_means
   row_absent_iff block id s =
-      both_ways ((λ e. row_injective (row_of tree block id) row.Absent e), (λ e. ap row_means e)) ((row_scan_holds tree block s).absent_iff id)
+      both_ways ((λ e. row_injective (row_of tree block id) (Ok None) e), (λ e. ap row_means e)) ((row_scan_holds tree block s).absent_iff id)
 
   rows_found : RowsFound tree (λ block id. row_means (row_of tree block id))
   rows_found =
@@ -174,9 +168,9 @@ module _ (tree : HeapTree) where
 
 -- the cells of a row
 module _ (block rows : List ℕ) (row n : ℕ) (area : List ℕ) (e : read_row_outcome block rows row area ≡ answered (n ∷ [])) where
-  taken : row_read block rows row (length area) ≡ cells.Cells n
+  taken : row_read block rows row (length area) ≡ Ok (Some n)
   unfolding read_row_outcome cells_means
-  taken = cells_injective _ (cells.Cells n) e
+  taken = cells_injective _ (Ok (Some n)) e
 
   cells_counted : n ≡ column_count (table_record block)
   cells_counted = (cells_say block rows row (length area) n taken).3
@@ -191,7 +185,7 @@ module _ (block rows : List ℕ) (row n : ℕ) (area : List ℕ) (e : read_row_o
       place_is block rows area row n taken i inside
       ∙ ap (λ (tag : ℕ). cell_words (cell_of block rows row tag)) (tag_is (table_record block) sound.shape i inside)
 
-  cell_places : (i : ℕ) (given : Cell) → i < n
+  cell_places : (i : ℕ) (given : Result (Option Cell) Refusal) → i < n
       → (cell_place_in (read_row_area block rows row area) i ≡ cell_words given) ↔ (cell_means given ≡ cell_outcome block rows row (column_at (table_record block) i).tag)
   unfolding cell_outcome
   cell_places i given h = (
@@ -210,7 +204,7 @@ module _ (block rows : List ℕ) (row n : ℕ) (area : List ℕ) (e : read_row_o
 absent_leaves : (block rows : List ℕ) (row : ℕ) (area : List ℕ) → read_row_outcome block rows row area ≡ absent [] → read_row_area block rows row area ≡ area
 unfolding read_row_outcome read_row_area cells_means
 absent_leaves block rows row area e =
-    left_alone block rows area row cells.Absent (cells_injective _ cells.Absent e) (λ n f. let clash : ◌≡◌ {A = ℕ} 0 1 = cc in omega arith)
+    left_alone block rows area row (Ok None) (cells_injective _ (Ok None) e) (λ n f. let clash : ◌≡◌ {A = ℕ} 0 1 = cc in omega arith)
 
 pub fifth_request : FifthRequest
 unfolding row_outcome row32_outcome cell_outcome

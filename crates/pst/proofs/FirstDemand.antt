@@ -3,9 +3,7 @@ use Prim.Native.Nat.{ℕ}
 use mathlib.Core.Path.{◌≡◌, refl}
 use mathlib.Core.List.{List}
 use lib.ListN.{length}
-use Rattle.refusal.specs.declared.Verdict.{Verdict}
-use Rattle.refusal.specs.declared.Verdict.TheVariants.{Accepted, Refused}
-use Rattle.refusal.specs.Order.{◌then◌, in_order, after}
+use Rattle.refusal.specs.Order.{Verdict, ◌then◌, in_order, after}
 use Rattle.keys.specs.declared.Sought.TheVariants.{Equal, AtLeast}
 use Rattle.coding.specs.Coding.{method_fits}
 use Rattle.header.specs.Header.{edition_of, nodes_of, blocks_of, header_rules, header_fits, header_of}
@@ -37,6 +35,7 @@ use Rattle.pst.specs.Outcomes.{header_outcome, nodes_outcome, blocks_outcome, no
 use Rattle.pst.specs.Demands.{Told, method_rules, FirstDemand}
 use Rattle.pst.proofs.Refusals.{verdict_told, header_verdict, header_told, node_told, block_told, sized_told, data_told, span_told, property_told, table_told, column_told, count_told, cell_told, row_told, cells_told}
 use Rattle.pst.proofs.Untouched.{list_untouched, read_untouched, data_untouched, encode_untouched, decode_untouched, row_untouched}
+use Rattle.std.specs.Prelude.{Ok, Err}
 
 header_call : (image : List ℕ) → Told header_means (header_rules image) (header_outcome image)
 unfolding header_outcome header_of header_fits
@@ -82,10 +81,10 @@ read_node_call : (image : List ℕ) (node : ℕ) (out : List ℕ) → Told data_
 unfolding data_outcome
 read_node_call image node out = data_told _ (data_rules (edition_of image) image node (length out)) (data_tried (edition_of image) image node (length out))
 
-then_accepted : (v : Verdict) → (v then Accepted) ≡ v
+then_accepted : (v : Verdict) → (v then Ok tt) ≡ v
 unfolding after
-then_accepted Accepted = refl
-then_accepted (Refused r) = refl
+then_accepted (Ok tt) = refl
+then_accepted (Err r) = refl
 
 code_call : (method : ℕ) → Told verdict_means (method_rules method) (code_outcome method)
 unfolding code_outcome method_fits in_order

@@ -3,16 +3,15 @@ use mathlib.Core.Path.{◌≡◌, ap}
 use mathlib.Core.List.{List, [], ◌∷◌}
 use Prim.Native.Nat.{ℕ, ◌/◌, ◌%◌, ◌^◌}
 use lib.Bits.{bit_xor, xor_self}
-use Rattle.refusal.specs.declared.Verdict.{Verdict}
-use Rattle.refusal.specs.declared.Verdict.TheVariants.{Accepted, Refused}
 use Rattle.refusal.specs.Number.{number}
-use Rattle.refusal.specs.Order.{demand}
+use Rattle.refusal.specs.Order.{Verdict, demand}
 use Rattle.remainder.specs.Remainder.{bits, bit}
 use Rattle.crc.specs.Checksum.{checksum, checksum_from}
 use Rattle.page.specs.Page.{signature}
 use Rattle.block.specs.Block.{room, room_for}
 use Rattle.edition.specs.Editions.{trailer64}
 use Rattle.heap.specs.Items.{item_kind, item_index, item_block, item_fits, bad_item}
+use Rattle.std.specs.Prelude.{Ok, Err}
 
 -- what a rule gives, beside what document 01 says that it gives
 record Case : Type 0 where
@@ -24,8 +23,8 @@ case g s = record { gives = g; should = s }
 
 -- the number of a refusal, 0 for an acceptance
 refused_with : Verdict → ℕ
-refused_with Accepted = 0
-refused_with (Refused r) = number r.fault
+refused_with (Ok tt) = 0
+refused_with (Err r) = number r.fault
 
 -- of any block, and of any offset and number that are equal
 cases : List ℕ → ℕ → List Case

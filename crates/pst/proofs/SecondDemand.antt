@@ -9,10 +9,8 @@ use lib.Dec.{leb}
 use lib.ListN.{length}
 use borrow.Author.Tests.{leb-true, le-leb}
 use Rattle.laws.proofs.Tests.{not_both}
-use Rattle.refusal.specs.declared.Verdict.{Verdict}
-use Rattle.refusal.specs.declared.Verdict.TheVariants as verdict
 use Rattle.refusal.specs.declared.Fault.TheVariants.{ShortBuffer}
-use Rattle.refusal.specs.Order.{◌needing◌, after, AllHold}
+use Rattle.refusal.specs.Order.{Verdict, ◌needing◌, after, AllHold}
 use Rattle.refusal.proofs.OrderLaws.{goes, accepted_exactly}
 use Rattle.coding.specs.Coding.{cyclic, word}
 use Rattle.coding.specs.Table.{R, I}
@@ -23,24 +21,18 @@ use Rattle.keys.specs.Search.{with_key}
 use Rattle.search.specs.SearchTree.{test}
 use Rattle.search.specs.Answer.{answer}
 use Rattle.header.specs.declared.Header.{Header}
-use Rattle.header.specs.declared.HeaderAnswer.TheVariants as header
 use Rattle.header.specs.Header.{edition_of, nodes_of, blocks_of, header_fits, header_of, says}
 use Rattle.header.specs.Sound.{HeaderSound}
 use Rattle.header.proofs.EditionLaws.{fair_edition}
 use Rattle.header.proofs.HeaderLaws.{header_exactly}
 use Rattle.tree.specs.declared.Listed.{Listed}
-use Rattle.tree.specs.declared.FoundBlock.TheVariants as block
 use Rattle.tree.specs.Tree.{tree_fits}
 use Rattle.tree.specs.Sound.{TreeSound}
 use Rattle.tree.proofs.Exactly.{tree_exactly}
-use Rattle.block.specs.declared.Checked.{Checked}
-use Rattle.block.specs.declared.Checked.TheVariants as checked
-use Rattle.block.specs.declared.Sized.TheVariants as sized
 use Rattle.laws.specs.Front.{fronted}
 use Rattle.block.specs.Block.{checked_block, size_in, test_of, fitting, read_in, read_of, block_bytes}
 use Rattle.block.proofs.BlockLaws.{read_fills}
 use Rattle.block.proofs.Exactly.{checked_exactly}
-use Rattle.node.specs.declared.NodeRead.TheVariants as read
 use Rattle.node.specs.Content.{Content, node_content, answer_to, filled_by, most_data}
 use Rattle.node.specs.Content as content
 use Rattle.node.specs.Named.{Named}
@@ -54,8 +46,6 @@ use Rattle.heaptree.specs.declared.Branch.{Branch}
 use Rattle.heaptree.specs.Branches.{branch_rules}
 use Rattle.heaptree.specs.Sound.{BranchSound}
 use Rattle.heaptree.proofs.SoundLaws.{branch_exactly}
-use Rattle.property.specs.declared.Property.{Property}
-use Rattle.property.specs.declared.Property.TheVariants as property
 use Rattle.property.specs.Context.{properties, Context, context_rules, context_test}
 use Rattle.property.specs.Lookup.{property_from, property_rules}
 use Rattle.property.specs.Lookup as lookup
@@ -67,26 +57,31 @@ use Rattle.pst.specs.Meaning.{answered, refuses, refusal_means, verdict_means, h
 use Rattle.pst.specs.Outcomes.{header_outcome, nodes_outcome, blocks_outcome, block_outcome, test_outcome, read_outcome, read_buffer, data_outcome, data_buffer, encode_buffer, decode_buffer, heap_outcome, test_item_outcome, item_outcome, span_outcome, property_outcome}
 use Rattle.pst.specs.Demands.{SoundBlock, BlockOfSize, DataOfSize, SecondDemand}
 use Rattle.pst.proofs.Injective.{verdict_injective, header_injective, block_injective, sized_injective, data_injective}
+use Rattle.std.specs.Prelude.{Option, Some, None, Result, Ok, Err}
+use Rattle.refusal.specs.declared.Refusal.{Refusal}
+use Rattle.property.specs.declared.Property.{Property}
+use Rattle.property.specs.declared.Property.TheVariants.{Empty, Item, Number, Subnode}
+use Rattle.tree.specs.declared.Found.TheVariants.{Entry}
 
 both_ways : {A B C : Type 0} → A ↔ B → B ↔ C → A ↔ C
 both_ways p q = ((λ a. q.0 (p.0 a)), (λ c. p.1 (q.1 c)))
 
 -- an acceptance and what it means
-accepted_means : (v : Verdict) → (verdict_means v ≡ answered []) ↔ (v ≡ verdict.Accepted)
+accepted_means : (v : Verdict) → (verdict_means v ≡ answered []) ↔ (v ≡ Ok tt)
 unfolding verdict_means
-accepted_means v = ((λ e. verdict_injective v verdict.Accepted e), (λ e. ap verdict_means e))
+accepted_means v = ((λ e. verdict_injective v (Ok tt) e), (λ e. ap verdict_means e))
 
 -- the header
-header_says : (v : Verdict) (h : Header) → after header.Refused v (header.Says h) ≡ header.Says h → v ≡ verdict.Accepted
+header_says : (v : Verdict) (h : Header) → after Err v (Ok h) ≡ Ok h → v ≡ Ok tt
 unfolding after
-header_says verdict.Accepted h e = refl
-header_says (verdict.Refused r) h e = cc
+header_says (Ok tt) h e = refl
+header_says (Err r) h e = cc
 
-header_holds : (image : List ℕ) → (header_outcome image ≡ header_means (header.Says (says image))) ↔ HeaderSound image
+header_holds : (image : List ℕ) → (header_outcome image ≡ header_means (Ok (says image))) ↔ HeaderSound image
 unfolding header_outcome header_of
 header_holds image = (
   (λ e. (header_exactly image).0 (header_says (header_fits image) (says image) (header_injective _ _ e))),
-  (λ s. ap header_means (goes header.Refused _ _ ((header_exactly image).1 s))),
+  (λ s. ap header_means (goes Err _ _ ((header_exactly image).1 s))),
 )
 
 -- the trees
@@ -98,10 +93,10 @@ block_tree_holds : (image : List ℕ) → (blocks_outcome image ≡ answered [])
 unfolding blocks_outcome
 block_tree_holds image = both_ways (accepted_means (tree_fits (blocks_of image) image)) (tree_exactly (blocks_of image) image)
 
-size_is : {m n : ℕ} → sized.Size m ≡ sized.Size n → m ≡ n
+size_is : {m n : ℕ} → Ok m ≡ Ok n → m ≡ n
 size_is e = cc
 
-block_size : (b : Listed) (size : ℕ) → b.size ≡ size → sized_means (sized.Size b.size) ≡ answered (size ∷ [])
+block_size : (b : Listed) (size : ℕ) → b.size ≡ size → sized_means (Ok b.size) ≡ answered (size ∷ [])
 unfolding sized_means
 block_size b size e = ap (λ (n : ℕ). answered (n ∷ [])) e
 
@@ -112,43 +107,43 @@ read_is image number space = refl
 -- a block that passed its tests
 module _ (image : List ℕ) (number : ℕ) where
   -- what the public lookup says of it
-  checked_sound : (b : Listed) → checked_block (edition_of image) image number ≡ checked.Block b → SoundBlock image number b
+  checked_sound : (b : Listed) → checked_block (edition_of image) image number ≡ Ok b → SoundBlock image number b
   unfolding block_outcome
   checked_sound b e = let h = (checked_exactly (edition_of image) image number b).0 e in record { pages = h.pages; found = ap block_means h.found; sound = h.sound }
 
-  sound_checked : (b : Listed) → SoundBlock image number b → checked_block (edition_of image) image number ≡ checked.Block b
+  sound_checked : (b : Listed) → SoundBlock image number b → checked_block (edition_of image) image number ≡ Ok b
   unfolding block_outcome
   sound_checked b s =
-      (checked_exactly (edition_of image) image number b).1 (record { pages = s.pages; found = block_injective _ (block.Found b s.pages) s.found; sound = s.sound })
+      (checked_exactly (edition_of image) image number b).1 (record { pages = s.pages; found = block_injective _ (Ok (Entry b s.pages)) s.found; sound = s.sound })
 
-  size_block : (c : Checked) (size : ℕ) → checked_block (edition_of image) image number ≡ c → size_in c ≡ sized.Size size → BlockOfSize image number size
+  size_block : (c : Result Listed Refusal) (size : ℕ) → checked_block (edition_of image) image number ≡ c → size_in c ≡ Ok size → BlockOfSize image number size
   unfolding size_in
-  size_block (checked.Block b) size e q = record { listed = b; sound = checked_sound b e; same_size = size_is q }
-  size_block (checked.Refused r) size e q = let clash : ◌≡◌ {A = ℕ} 0 1 = cc in absurd (omega arith)
+  size_block (Ok b) size e q = record { listed = b; sound = checked_sound b e; same_size = size_is q }
+  size_block (Err r) size e q = let clash : ◌≡◌ {A = ℕ} 0 1 = cc in absurd (omega arith)
 
   tested_holds : (size : ℕ) → (test_outcome image number ≡ answered (size ∷ [])) ↔ BlockOfSize image number size
   unfolding test_outcome test_of sized_means size_in
   tested_holds size = (
-    (λ e. size_block (checked_block (edition_of image) image number) size refl (sized_injective _ (sized.Size size) e)),
+    (λ e. size_block (checked_block (edition_of image) image number) size refl (sized_injective _ (Ok size) e)),
     (λ b. ap (λ c. sized_means (size_in c)) (sound_checked b.listed b.sound) ∙ block_size b.listed size b.same_size),
   )
 
   -- a read asks for room besides
-  space_block : (c : Checked) (size space : ℕ) → checked_block (edition_of image) image number ≡ c → read_in c space ≡ sized.Size size → BlockOfSize image number size × (size ≤ space)
+  space_block : (c : Result Listed Refusal) (size space : ℕ) → checked_block (edition_of image) image number ≡ c → read_in c space ≡ Ok size → BlockOfSize image number size × (size ≤ space)
   unfolding read_in fitting
-  space_block (checked.Block b) size space e q = by (leb b.size space) refl q
+  space_block (Ok b) size space e q = by (leb b.size space) refl q
     where
-      by : (w : Bool) → leb b.size space ≡ w → cond w (sized.Size b.size) (sized.Refused (ShortBuffer needing b.size)) ≡ sized.Size size → BlockOfSize image number size × (size ≤ space)
+      by : (w : Bool) → leb b.size space ≡ w → cond w (Ok b.size) (Err (ShortBuffer needing b.size)) ≡ Ok size → BlockOfSize image number size × (size ≤ space)
       by true t z =
           let same : b.size ≡ size = size_is z in
           (record { listed = b; sound = checked_sound b e; same_size = same }, subst (λ (n : ℕ). n ≤ space) same (leb-true b.size space t))
       by false t z = let clash : ◌≡◌ {A = ℕ} 0 1 = cc in absurd (omega arith)
-  space_block (checked.Refused r) size space e q = let clash : ◌≡◌ {A = ℕ} 0 1 = cc in absurd (omega arith)
+  space_block (Err r) size space e q = let clash : ◌≡◌ {A = ℕ} 0 1 = cc in absurd (omega arith)
 
   read_holds : (size : ℕ) (out : List ℕ) → (read_outcome image number out ≡ answered (size ∷ [])) ↔ (BlockOfSize image number size × (size ≤ length out))
   unfolding read_outcome sized_means
   read_holds size out = (
-    (λ e. space_block (checked_block (edition_of image) image number) size (length out) refl (read_is image number (length out) ∙ sized_injective _ (sized.Size size) e)),
+    (λ e. space_block (checked_block (edition_of image) image number) size (length out) refl (read_is image number (length out) ∙ sized_injective _ (Ok size) e)),
     (λ b. ap sized_means (sym (read_fills (edition_of image) image number out b.0.listed (sound_checked b.0.listed b.0.sound) (rw b.0.same_size b.1)).0)
         ∙ block_size b.0.listed size b.0.same_size),
   )
@@ -158,15 +153,15 @@ module _ (image : List ℕ) (number : ℕ) where
   bytes_hold out b s h = sym (read_fills (edition_of image) image number out b (sound_checked b s) h).1
 
 -- node data
-length_is : {m n : ℕ} → read.Length m ≡ read.Length n → m ≡ n
+length_is : {m n : ℕ} → Ok (Some m) ≡ Ok (Some n) → m ≡ n
 length_is e = cc
 
 module _ (image : List ℕ) (node : ℕ) where
-  content_data : (c : Content) (size space : ℕ) → node_content (edition_of image) image node ≡ c → answer_to c space ≡ read.Length size → DataOfSize image node space size
+  content_data : (c : Content) (size space : ℕ) → node_content (edition_of image) image node ≡ c → answer_to c space ≡ Ok (Some size) → DataOfSize image node space size
   unfolding answer_to
   content_data (content.bytes s) size space e q = by (leb (length s) space) refl q
     where
-      by : (w : Bool) → leb (length s) space ≡ w → cond w (read.Length (length s)) (read.Refused (ShortBuffer needing length s)) ≡ read.Length size → DataOfSize image node space size
+      by : (w : Bool) → leb (length s) space ≡ w → cond w (Ok (Some (length s))) (Err (ShortBuffer needing length s)) ≡ Ok (Some size) → DataOfSize image node space size
       by true t z =
           let same : length s ≡ size = length_is z in
           record { bytes = s; named = (node_exactly (edition_of image) image node s).0 e; long = same; fits = subst (λ (n : ℕ). n ≤ space) same (leb-true (length s) space t) }
@@ -174,14 +169,14 @@ module _ (image : List ℕ) (node : ℕ) where
   content_data content.absent size space e q = let clash : ◌≡◌ {A = ℕ} 0 1 = cc in absurd (omega arith)
   content_data (content.refused r) size space e q = let clash : ◌≡◌ {A = ℕ} 0 1 = cc in absurd (omega arith)
 
-  answer_fits : (s : List ℕ) (size space : ℕ) → length s ≡ size → size ≤ space → answer_to (content.bytes s) space ≡ read.Length size
+  answer_fits : (s : List ℕ) (size space : ℕ) → length s ≡ size → size ≤ space → answer_to (content.bytes s) space ≡ Ok (Some size)
   unfolding answer_to
   answer_fits s size space e h = rw (e, le-leb size space h)
 
   data_holds : (size : ℕ) (out : List ℕ) → (data_outcome image node out ≡ answered (size ∷ [])) ↔ DataOfSize image node (length out) size
   unfolding data_outcome data_means
   data_holds size out = (
-    (λ e. content_data (node_content (edition_of image) image node) size (length out) refl (data_injective _ (read.Length size) e)),
+    (λ e. content_data (node_content (edition_of image) image node) size (length out) refl (data_injective _ (Ok (Some size)) e)),
     (λ d. ap data_means (ap (λ c. answer_to c (length out)) ((node_exactly (edition_of image) image node d.bytes).1 d.named) ∙ answer_fits d.bytes size (length out) d.long d.fits)),
   )
 
@@ -217,14 +212,14 @@ unfolding span_outcome span_means
 item_place_holds block item h n = ap span_means (span_taken block item ((item_exactly block item).1 (h, n)))
 
 -- properties
-not_refused : (p : Property) → (refuses (property_means p) ≡ false) ↔ (refusal_in p ≡ verdict.Accepted)
+not_refused : (p : Result (Option Property) Refusal) → (refuses (property_means p) ≡ false) ↔ (refusal_in p ≡ Ok tt)
 unfolding refuses property_means refusal_means refusal_in
-not_refused (property.Number type value) = ((λ e. refl), (λ e. refl))
-not_refused (property.Empty type) = ((λ e. refl), (λ e. refl))
-not_refused (property.Item type item) = ((λ e. refl), (λ e. refl))
-not_refused (property.Subnode type subnode) = ((λ e. refl), (λ e. refl))
-not_refused property.Absent = ((λ e. refl), (λ e. refl))
-not_refused (property.Refused r) = ((λ e. not_both true refl e), (λ e. cc))
+not_refused (Ok (Some (Number type value))) = ((λ e. refl), (λ e. refl))
+not_refused (Ok (Some (Empty type))) = ((λ e. refl), (λ e. refl))
+not_refused (Ok (Some (Item type item))) = ((λ e. refl), (λ e. refl))
+not_refused (Ok (Some (Subnode type subnode))) = ((λ e. refl), (λ e. refl))
+not_refused (Ok None) = ((λ e. refl), (λ e. refl))
+not_refused (Err r) = ((λ e. not_both true refl e), (λ e. cc))
 
 property_holds : (block : List ℕ) (id : ℕ) → (refuses (property_outcome block id) ≡ false) ↔ AllHold (property_rules block id)
 unfolding property_outcome

@@ -20,8 +20,6 @@ use Rattle.edition.specs.Editions.{trailer64, root64, edition64, bbt32, trailer3
 use Rattle.edition.specs.Fair.{FairEdition}
 use Rattle.edition.proofs.Fairs.{fair_edition64, fair_edition32}
 use Rattle.header.specs.declared.Header.{Header}
-use Rattle.header.specs.declared.HeaderAnswer.TheVariants.{Says}
-use Rattle.header.specs.declared.HeaderAnswer.TheVariants as header
 use Rattle.header.specs.Header.{length_fits, magic_fits, client_fits, version_of, older, version_fits, edition_of, blocks_of, mark_rules, seal_rules, last_rules, header_rules, header_fits, header_of}
 use Rattle.header.proofs.EditionLaws.{fair_places, older_is, newer_is, edition_one_of}
 use Rattle.header.proofs.FormerLaws.{rules_as_before, says_as_before, end_as_before}
@@ -47,6 +45,7 @@ use Rattle.pst.specs.Outcomes.{header_outcome, nodes_outcome, blocks_outcome, no
 use Rattle.pst.specs.Demands.{InEdition, AsBefore, OlderVersion, SeventhRequest}
 use Rattle.pst.proofs.FirstDemand.{first_demand}
 use Rattle.pst.proofs.ThirdDemand.{third_demand}
+use Rattle.std.specs.Prelude.{Ok, Err}
 
 -- the version tells the edition
 older_of : (image : List ℕ) → OlderVersion image → older image ≡ true
@@ -148,7 +147,7 @@ before image e =
       rules = rules_as_before image e;
       header_says = says_as_before image e;
       end = end_as_before image e;
-      header = ap₂ (λ (rules : List Rule) (h : Header). header_means (after header.Refused (in_order rules) (Says h))) (rules_as_before image e) (says_as_before image e);
+      header = ap₂ (λ (rules : List Rule) (h : Header). header_means (after Err (in_order rules) (Ok h))) (rules_as_before image e) (says_as_before image e);
       check_nodes = ap (λ (E : Edition). verdict_means (tree_fits E.nodes image)) same;
       check_blocks = ap (λ (E : Edition). verdict_means (tree_fits E.blocks image)) same;
       find_node = λ node. ap (λ (E : Edition). node_means (node_of E.nodes image node)) same;

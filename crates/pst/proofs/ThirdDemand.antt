@@ -2,12 +2,10 @@
 use Prim.Native.Nat.{ℕ}
 use mathlib.Core.Path.{◌≡◌, refl, sym, ap, ◌∙◌}
 use mathlib.Core.Bool.{false}
-use mathlib.Core.Option.{Option, none, some}
 use mathlib.Core.List.{List, [], ◌∷◌}
 use native.Mathlib.Omega.{arith}
 use lib.ListN.{length, get_or}
 use Rattle.refusal.specs.declared.Refusal.{Refusal}
-use Rattle.refusal.specs.declared.Verdict.TheVariants.{Accepted}
 use Rattle.keys.specs.declared.Sought.TheVariants.{AtLeast}
 use Rattle.keys.specs.Search.{with_key}
 use Rattle.keys.proofs.FoundLaws.{missing_exactly}
@@ -35,6 +33,7 @@ use Rattle.pst.specs.Meaning as meaning
 use Rattle.pst.specs.Outcomes.{nodes_outcome, blocks_outcome, node_outcome, block_outcome, next_node_outcome, next_block_outcome}
 use Rattle.pst.specs.Demands.{node_says, block_says, Lookups, Paths, ThirdDemand, FirstValue, Listings}
 use Rattle.pst.proofs.Injective.{verdict_injective}
+use Rattle.std.specs.Prelude.{Ok, Option, Some, None}
 
 -- the case of a meaning, and the count in a lookup's
 unfoldable case_in : Meaning → ℕ
@@ -86,21 +85,21 @@ module _ (says : Answer (List ℕ) → Meaning) (plain : Plain says) where
   -- the entry or none is no refusal
   says_answer : (o : Option (List ℕ)) (n : ℕ) → refuses (says (answer o n)) ≡ false
   unfolding answer refuses
-  says_answer none n = ap refuses (plain.of_absent n)
-  says_answer (some e) n = (plain.of_found e n).2
+  says_answer None n = ap refuses (plain.of_absent n)
+  says_answer (Some e) n = (plain.of_found e n).2
 
-  says_none : (o : Option (List ℕ)) (n m : ℕ) → says (answer o n) ≡ absent (m ∷ []) → o ≡ none
+  says_none : (o : Option (List ℕ)) (n m : ℕ) → says (answer o n) ≡ absent (m ∷ []) → o ≡ None
   unfolding answer case_in
-  says_none none n m e = refl
-  says_none (some e) n m q = let clash : ◌≡◌ {A = ℕ} 0 1 = sym (plain.of_found e n).0 ∙ ap case_in q in absurd (omega arith)
+  says_none None n m e = refl
+  says_none (Some e) n m q = let clash : ◌≡◌ {A = ℕ} 0 1 = sym (plain.of_found e n).0 ∙ ap case_in q in absurd (omega arith)
 
-fits : (L : Layout) (image : List ℕ) → verdict_means (tree_fits L image) ≡ answered [] → tree_fits L image ≡ Accepted
+fits : (L : Layout) (image : List ℕ) → verdict_means (tree_fits L image) ≡ answered [] → tree_fits L image ≡ Ok tt
 unfolding verdict_means
-fits L image e = verdict_injective (tree_fits L image) Accepted e
+fits L image e = verdict_injective (tree_fits L image) (Ok tt) e
 
 -- of either tree
 module _ (L : Layout) (says : Answer (List ℕ) → Meaning) (plain : Plain says) where
-  lookups : (image : List ℕ) → tree_fits L image ≡ Accepted → Lookups L says (λ key. says (lookup L image key)) image
+  lookups : (image : List ℕ) → tree_fits L image ≡ Ok tt → Lookups L says (λ key. says (lookup L image key)) image
   unfolding answer
   lookups image ok =
       let d = demand3 L image ok in

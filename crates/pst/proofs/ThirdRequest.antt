@@ -11,11 +11,7 @@ use Rattle.laws.proofs.Tests.{not_both}
 use Rattle.le.specs.Bytes.{byte}
 use Rattle.le.proofs.FieldLaws.{byte_part}
 use Rattle.refusal.specs.declared.Refusal.{Refusal}
-use Rattle.refusal.specs.declared.Verdict.TheVariants.{Accepted, Refused}
 use Rattle.header.specs.Header.{nodes_of, header_fits, header_of}
-use Rattle.header.specs.declared.HeaderAnswer.TheVariants as header
-use Rattle.tree.specs.declared.FoundNode.{FoundNode}
-use Rattle.tree.specs.declared.FoundNode.TheVariants as node
 use Rattle.tree.specs.Answers.{node_of}
 use Rattle.tree.proofs.Ways.{start_refused, node_refused}
 use Rattle.nodelist.specs.Places.{node_words, place_of, list_fits}
@@ -27,11 +23,15 @@ use Rattle.pst.specs.Demands.{place_in, ThirdRequest}
 use Rattle.pst.proofs.Injective.{verdict_injective, header_injective, node_injective}
 use Rattle.pst.proofs.Refusals.{header_verdict_lem, header_verdict}
 use Rattle.pst.proofs.ThirdDemand.{third_demand}
+use Rattle.std.specs.Prelude.{Result, Ok, Err}
+use Rattle.tree.specs.declared.Found.{Found}
+use Rattle.tree.specs.declared.Node.{Node}
+use Rattle.tree.specs.declared.Found.TheVariants.{Absent, Entry}
 
 module _ (nodes area : List ℕ) where
-  fits : list_outcome nodes area ≡ answered [] → list_fits (length nodes) (length area) ≡ Accepted
+  fits : list_outcome nodes area ≡ answered [] → list_fits (length nodes) (length area) ≡ Ok tt
   unfolding list_outcome verdict_means
-  fits e = verdict_injective _ Accepted e
+  fits e = verdict_injective _ (Ok tt) e
 
   taken : (list_outcome nodes area ≡ answered []) ↔ ((length nodes ≤ 4096) × (length nodes ≤ length area / 9))
   unfolding list_outcome verdict_means
@@ -44,7 +44,7 @@ module _ (image nodes area : List ℕ) (ok : list_outcome nodes area ≡ answere
   unfolding list_area
   here i h = place_is (nodes_of image) image nodes area (fits nodes area ok) i h
 
-  told : (i : ℕ) (given : FoundNode) → i < length nodes → (place_in (list_area image nodes area) i ≡ node_words given) ↔ (node_means given ≡ node_outcome image (get_or nodes i 0))
+  told : (i : ℕ) (given : Result (Found Node) Refusal) → i < length nodes → (place_in (list_area image nodes area) i ≡ node_words given) ↔ (node_means given ≡ node_outcome image (get_or nodes i 0))
   unfolding node_outcome
   told i given h = (
     (λ e. ap node_means (sym (words_injective _ given (sym (here i h) ∙ e)))),
@@ -52,19 +52,19 @@ module _ (image nodes area : List ℕ) (ok : list_outcome nodes area ≡ answere
   )
 
 -- a refused header refuses every lookup
-headless : (image : List ℕ) (key : ℕ) (r : Refusal) → header_outcome image ≡ refusal_means r → node_of (nodes_of image) image key ≡ node.Refused r
+headless : (image : List ℕ) (key : ℕ) (r : Refusal) → header_outcome image ≡ refusal_means r → node_of (nodes_of image) image key ≡ Err r
 unfolding header_outcome header_means header_verdict_lem header_of
 headless image key r e =
-    let is : header_of image ≡ header.Refused r = header_injective _ (header.Refused r) e in
-    let refused : header_fits image ≡ Refused r = header_verdict (header_fits image) _ ∙ ap header_verdict_lem is in
+    let is : header_of image ≡ Err r = header_injective _ (Err r) e in
+    let refused : header_fits image ≡ Err r = header_verdict (header_fits image) _ ∙ ap header_verdict_lem is in
     sym (node_refused (nodes_of image) image key r (sym (start_refused (nodes_of image) image (header_fits image) r refl refused) ∙ refused))
 
 -- the first word of an answer that is no refusal
-first_word : (x : FoundNode) → refuses (node_means x) ≡ false → get_or (node_words x) 0 0 ≡ 0
+first_word : (x : Result (Found Node) Refusal) → refuses (node_means x) ≡ false → get_or (node_words x) 0 0 ≡ 0
 unfolding refuses node_means node_words refusal_means
-first_word (node.Found n pages) e = refl
-first_word (node.Absent pages) e = refl
-first_word (node.Refused r) e = not_both _ refl e
+first_word (Ok (Entry n pages)) e = refl
+first_word (Ok (Absent pages)) e = refl
+first_word (Err r) e = not_both _ refl e
 
 never_refused : (image nodes area : List ℕ) (i : ℕ) → nodes_outcome image ≡ answered [] → list_outcome nodes area ≡ answered [] → i < length nodes → get_or (list_area image nodes area) (9 * i) 0 ≡ 0
 unfolding byte node_outcome

@@ -8,40 +8,35 @@ use lib.Dec.{leb}
 use lib.ListN.{length}
 use borrow.Author.Tests.{leb-false}
 use Rattle.laws.proofs.Tests.{not_both}
-use Rattle.refusal.specs.declared.Verdict.{Verdict}
-use Rattle.refusal.specs.declared.Verdict.TheVariants.{Accepted, Refused}
 use Rattle.refusal.specs.declared.Fault.TheVariants.{Encoding, ShortBuffer}
-use Rattle.refusal.specs.Order.{◌at◌, ◌needing◌, demand}
+use Rattle.refusal.specs.Order.{Verdict, ◌at◌, ◌needing◌, demand}
 use Rattle.coding.specs.Coding.{method_fits, coded}
 use Rattle.coding.specs.Table.{R, I}
 use Rattle.coding.proofs.CodingLaws.{coded_none}
 use Rattle.nodelist.specs.Places.{list_fits, area_of}
 use Rattle.nodelist.proofs.ListLaws.{area_left}
-use Rattle.block.specs.declared.Checked.{Checked}
-use Rattle.block.specs.declared.Checked.TheVariants as checked
-use Rattle.block.specs.declared.Sized.TheVariants as sized
 use Rattle.laws.specs.Front.{fronted}
 use Rattle.block.specs.Block.{checked_block, block_bytes, fitting, read_in, read_of, filled_in, filled_of}
 use Rattle.node.specs.Content.{Content, node_content, answer_to, filled_by}
 use Rattle.node.specs.Content as content
-use Rattle.node.specs.declared.NodeRead.TheVariants as read
-use Rattle.rowcells.specs.declared.RowRead.{RowRead}
-use Rattle.rowcells.specs.declared.RowRead.TheVariants as cells
 use Rattle.rowcells.specs.RowCells.{row_read, row_area}
 use Rattle.rowcells.proofs.ReadLaws.{left_alone}
 use Rattle.header.specs.Header.{edition_of, nodes_of}
 use Rattle.pst.specs.Meaning.{refuses, verdict_means, sized_means, data_means, cells_means}
 use Rattle.pst.specs.Outcomes.{list_outcome, list_area, read_outcome, read_buffer, data_outcome, data_buffer, read_row_outcome, read_row_area, code_outcome, encode_buffer, decode_buffer}
+use Rattle.std.specs.Prelude.{Option, Some, None, Result, Ok, Err}
+use Rattle.refusal.specs.declared.Refusal.{Refusal}
+use Rattle.tree.specs.declared.Listed.{Listed}
 
-checked_untouched : (image : List ℕ) (c : Checked) (out : List ℕ) → refuses (sized_means (read_in c (length out))) ≡ true → filled_in image c out ≡ out
+checked_untouched : (image : List ℕ) (c : Result Listed Refusal) (out : List ℕ) → refuses (sized_means (read_in c (length out))) ≡ true → filled_in image c out ≡ out
 unfolding refuses sized_means read_in fitting filled_in
-checked_untouched image (checked.Block b) out e = by_length (leb b.size (length out)) e
+checked_untouched image (Ok b) out e = by_length (leb b.size (length out)) e
   where
-    by_length : (w : Bool) → refuses (sized_means (cond w (sized.Size b.size) (sized.Refused (ShortBuffer needing b.size)))) ≡ true
+    by_length : (w : Bool) → refuses (sized_means (cond w (Ok b.size) (Err (ShortBuffer needing b.size)))) ≡ true
         → cond w (fronted (block_bytes image b) out) out ≡ out
     by_length true h = not_both false h refl
     by_length false h = refl
-checked_untouched image (checked.Refused r) out e = refl
+checked_untouched image (Err r) out e = refl
 
 pub read_untouched : (image : List ℕ) (block : ℕ) (out : List ℕ) → refuses (read_outcome image block out) ≡ true → read_buffer image block out ≡ out
 unfolding read_outcome read_buffer read_of filled_of
@@ -51,7 +46,7 @@ content_untouched : (c : Content) (out : List ℕ) → refuses (data_means (answ
 unfolding refuses data_means answer_to filled_by
 content_untouched (content.bytes s) out e = by_length (leb (length s) (length out)) e
   where
-    by_length : (w : Bool) → refuses (data_means (cond w (read.Length (length s)) (read.Refused (ShortBuffer needing length s)))) ≡ true → cond w (fronted s out) out ≡ out
+    by_length : (w : Bool) → refuses (data_means (cond w (Ok (Some (length s))) (Err (ShortBuffer needing length s)))) ≡ true → cond w (fronted s out) out ≡ out
     by_length true h = not_both false h refl
     by_length false h = refl
 content_untouched content.absent out e = refl
@@ -66,17 +61,17 @@ unfolding list_outcome list_area refuses verdict_means
 list_untouched image nodes area = by (list_fits (length nodes) (length area)) refl
   where
     by : (v : Verdict) → list_fits (length nodes) (length area) ≡ v → refuses (verdict_means v) ≡ true → area_of (nodes_of image) image nodes area ≡ area
-    by Accepted q h = not_both false h refl
-    by (Refused r) q h = sym (area_left (nodes_of image) image nodes area r (sym q))
+    by (Ok tt) q h = not_both false h refl
+    by (Err r) q h = sym (area_left (nodes_of image) image nodes area r (sym q))
 
 pub row_untouched : (block rows : List ℕ) (row : ℕ) (area : List ℕ) → refuses (read_row_outcome block rows row area) ≡ true → read_row_area block rows row area ≡ area
 unfolding read_row_outcome read_row_area refuses cells_means
 row_untouched block rows row area = by (row_read block rows row (length area)) refl
   where
-    by : (x : RowRead) → row_read block rows row (length area) ≡ x → refuses (cells_means x) ≡ true → row_area block rows row area ≡ area
-    by (cells.Cells n) q h = not_both false h refl
-    by cells.Absent q h = not_both false h refl
-    by (cells.Refused r) q h = left_alone block rows area row (cells.Refused r) q (λ n e. let clash : ◌≡◌ {A = ℕ} 0 1 = cc in omega arith)
+    by : (x : Result (Option ℕ) Refusal) → row_read block rows row (length area) ≡ x → refuses (cells_means x) ≡ true → row_area block rows row area ≡ area
+    by (Ok (Some n)) q h = not_both false h refl
+    by (Ok None) q h = not_both false h refl
+    by (Err r) q h = left_alone block rows area row (Err r) q (λ n e. let clash : ◌≡◌ {A = ℕ} 0 1 = cc in omega arith)
 
 over_two : (method : ℕ) → refuses (code_outcome method) ≡ true → 2 < method
 unfolding refuses code_outcome verdict_means method_fits demand

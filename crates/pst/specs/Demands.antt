@@ -2,13 +2,11 @@
 --
 -- The contract of a call says: what the answer means is the outcome that pst/specs/Outcomes names, and each buffer at exit is the one named there. What holds of every
 -- outcome so holds of every call. Proved in pst/proofs/FirstDemand, SecondDemand, ThirdDemand, FirstRequest, SecondRequest, ThirdRequest, FourthRequest, FifthRequest, SixthRequest and SeventhRequest.
-use Rattle.std.specs.Prelude.{ℕ, ◌+◌, ◌*◌, ◌/◌, ◌%◌, ◌^◌, ◌≤◌, ◌<◌, ◌≡◌, true, false, ◌↔◌, ◌⊎◌, ◌≢◌, List, [], ◌∷◌, ◌++◌, map, leb, length, get_or, drop}
-use Rattle.std.proofs.Math.Option.{Option}
+use Rattle.std.specs.Prelude.{ℕ, ◌+◌, ◌*◌, ◌/◌, ◌%◌, ◌^◌, ◌≤◌, ◌<◌, ◌≡◌, true, false, ◌↔◌, ◌⊎◌, ◌≢◌, List, [], ◌∷◌, ◌++◌, map, leb, length, get_or, drop, Option, Some, Result, Ok, Err}
 use Rattle.std.specs.Int.Bits.{bit_xor}
 use Rattle.le.specs.Bytes.{little_endian, part, Bytes}
 use Rattle.refusal.specs.declared.Refusal.{Refusal}
 use Rattle.refusal.specs.declared.Fault.TheVariants.{Encoding, KeyRange, PageOffset, BlockOffset}
-use Rattle.refusal.specs.declared.Verdict.TheVariants.{Accepted, Refused}
 use Rattle.refusal.specs.Order.{◌at◌, at_entry, Rule, rule, in_order, after, AllHold, FirstFault}
 use Rattle.keys.specs.declared.Sought.TheVariants.{Equal, AtLeast}
 use Rattle.keys.specs.Plain.{Ascending, Missing, Distinct}
@@ -22,8 +20,6 @@ use Rattle.coding.specs.Table.{R, I}
 use Rattle.edition.specs.declared.Edition.{Edition}
 use Rattle.edition.specs.Editions.{nbt64, bbt64, edition64, bbt32, edition32}
 use Rattle.edition.specs.Fair.{FairEdition}
-use Rattle.header.specs.declared.HeaderAnswer.TheVariants.{Says}
-use Rattle.header.specs.declared.HeaderAnswer.TheVariants as header
 use Rattle.header.specs.Header.{edition_of, nodes_of, blocks_of, length_fits, version_of, client_fits, magic_fits, end_place, stated_end, header_rules, says, file_end}
 use Rattle.header.specs.Former.{rules64, says64, end64}
 use Rattle.header.specs.End.{Above, LooksToEnd}
@@ -34,9 +30,6 @@ use Rattle.page.specs.Layout.{as_given, compared}
 use Rattle.page.specs.Page.{number_in, key_in, page_fits}
 use Rattle.page.specs.KeyFaults.{KeyFaultsTold}
 use Rattle.tree.specs.declared.Listed.{Listed}
-use Rattle.tree.specs.declared.FoundNode.{FoundNode}
-use Rattle.tree.specs.declared.FoundNode.TheVariants as node
-use Rattle.tree.specs.declared.FoundBlock.TheVariants as block
 use Rattle.tree.specs.Tree.{root, root_level, tree_rules, tree_fits, scan, all_routes}
 use Rattle.tree.specs.Lookup.{path, search_rules, pages_read}
 use Rattle.tree.specs.Answers.{shown, as_node, node_of, as_block, block_of, next_node_of, next_block_of}
@@ -47,7 +40,6 @@ use Rattle.tree.specs.Listing.{Listing, TreeLists}
 use Rattle.laws.specs.Front.{fronted}
 use Rattle.nodelist.specs.Places.{node_words, list_rules, area_of}
 use Rattle.edition.specs.declared.Trailer.{Trailer}
-use Rattle.block.specs.declared.Checked.TheVariants.{Block}
 use Rattle.block.specs.Block.{room_for, block_fits, checked_block, test_of, block_bytes, read_of, filled_of}
 use Rattle.block.specs.Sound.{BlockSound, ListedSound}
 use Rattle.block.specs.Tried.{test_rules, read_rules}
@@ -67,18 +59,19 @@ use Rattle.columns.specs.declared.Column.{Column}
 use Rattle.columns.specs.Record.{column_count}
 use Rattle.columns.specs.Columns.{column_at, tags}
 use Rattle.columns.specs.Sound.{Apart}
-use Rattle.table.specs.declared.TableAnswer.TheVariants as table
-use Rattle.table.specs.declared.ColumnAnswer.TheVariants as column
 use Rattle.table.specs.Context.{table_record, table_rules, TableSound}
 use Rattle.table.specs.Says.{table_in}
 use Rattle.table.specs.RowIndex.{row_index, row_index32, row_id, row_from, row_rules, IndexSound, row_records}
-use Rattle.cells.specs.declared.Cell.{Cell}
 use Rattle.cells.specs.Rows.{Held, rows_named, row_bytes, rows_rules, row_count, row_at}
 use Rattle.cells.specs.Cells.{cell_at, cell_in}
 use Rattle.cells.specs.Tried.{cell_rules}
 use Rattle.rowcells.specs.RowCells.{cell_words, read_row_rules}
 use Rattle.pst.specs.Meaning.{Meaning, answered, absent, refused, refuses, refusal_means, verdict_means, header_means, node_means, block_means, sized_means, data_means, span_means, property_means, table_means, column_means, count_means, cell_means, row_means, cells_means}
 use Rattle.pst.specs.Outcomes.{header_outcome, nodes_outcome, blocks_outcome, node_outcome, list_outcome, list_area, block_outcome, next_node_outcome, next_block_outcome, test_outcome, read_outcome, read_buffer, data_outcome, data_buffer, code_outcome, encode_buffer, decode_buffer, heap_outcome, test_item_outcome, item_outcome, span_outcome, property_outcome, table_outcome, column_outcome, count_outcome, cell_outcome, row_outcome, row32_outcome, read_row_outcome, read_row_area, checksum_outcome, room32_outcome}
+use Rattle.tree.specs.declared.Found.{Found}
+use Rattle.tree.specs.declared.Node.{Node}
+use Rattle.cells.specs.declared.Cell.{Cell}
+use Rattle.tree.specs.declared.Found.TheVariants.{Entry}
 
 -- Demand 1 of one call: its answers, by what they mean; the rules that it tries, in their order; its outcome
 pub record Told {A : Type 0} (means : A → Meaning) (rules : List Rule) (outcome : Meaning) : Type 0 where
@@ -129,7 +122,7 @@ pub record FirstDemand : Type 0 where
 -- a block that the block tree lists under this number, and whose rules hold
 pub record SoundBlock (image : List ℕ) (number : ℕ) (listed : Listed) : Type 0 where
   pub pages : ℕ
-  pub found : block_outcome image number ≡ block_means (block.Found listed pages)
+  pub found : block_outcome image number ≡ block_means (Ok (Entry listed pages))
   pub sound : BlockSound (edition_of image).trailer image listed
 
 -- a call on a block that answers its size
@@ -147,7 +140,7 @@ pub record DataOfSize (image : List ℕ) (node space size : ℕ) : Type 0 where
 
 pub record SecondDemand : Type 0 where
   -- header, pages and both trees are accepted exactly when the rules hold, and the header says what stands in it
-  pub header : (image : List ℕ) → (header_outcome image ≡ header_means (Says (says image))) ↔ HeaderSound image
+  pub header : (image : List ℕ) → (header_outcome image ≡ header_means (Ok (says image))) ↔ HeaderSound image
   pub node_tree : (image : List ℕ) → (nodes_outcome image ≡ answered []) ↔ TreeSound (nodes_of image) image
   pub block_tree : (image : List ℕ) → (blocks_outcome image ≡ answered []) ↔ TreeSound (blocks_of image) image
   -- a block is accepted exactly when it is listed and its rules hold
@@ -231,7 +224,7 @@ pub record SecondRequest : Type 0 where
   -- of any page, over any layout: refused with either exactly when it passes 6 to 10 and that entry is the first at fault in that way, accepted exactly when none is; 11 never of the first entry
   pub pages : (L : Layout) (image : List ℕ) (p : Link) → KeyFaultsTold L image p
   -- "The root's range is everything": 21 never of a root
-  pub root_never : (L : Layout) (image : List ℕ) (i : ℕ) → page_fits L image (root L image) ≡ Refused (at_entry KeyRange (root L image).offset i) → ⊥
+  pub root_never : (L : Layout) (image : List ℕ) (i : ℕ) → page_fits L image (root L image) ≡ Err (at_entry KeyRange (root L image).offset i) → ⊥
   -- of every call that reads pages: the refusal is that of a page reached from the root of its tree
   pub check_nodes : (image : List ℕ) → KeysTold (KeyFault (nodes_of image) image) (nodes_outcome image)
   pub check_blocks : (image : List ℕ) → KeysTold (KeyFault (blocks_of image) image) (blocks_outcome image)
@@ -254,7 +247,7 @@ pub record ThirdRequest : Type 0 where
   pub too_long : (nodes area : List ℕ) → 4096 < length nodes → list_outcome nodes area ≡ refused 17 0 4096
   pub too_short : (nodes area : List ℕ) → length nodes ≤ 4096 → length area / 9 < length nodes → list_outcome nodes area ≡ refused 17 0 (length nodes)
   -- "every place in the result equals what the single lookup gives for that number": its words are those of that answer and of no other
-  pub places : (image nodes area : List ℕ) (i : ℕ) (given : FoundNode) → list_outcome nodes area ≡ answered [] → i < length nodes
+  pub places : (image nodes area : List ℕ) (i : ℕ) (given : Result (Found Node) Refusal) → list_outcome nodes area ≡ answered [] → i < length nodes
       → (place_in (list_area image nodes area) i ≡ node_words given) ↔ (node_means given ≡ node_outcome image (get_or nodes i 0))
   -- "Results past the list stay", in any call at all
   pub past_the_list : (image nodes area : List ℕ) → drop (9 * length nodes) (list_area image nodes area) ≡ drop (9 * length nodes) area
@@ -266,7 +259,7 @@ pub record ThirdRequest : Type 0 where
   pub empty : (image area : List ℕ) → (list_outcome [] area ≡ answered []) × (list_area image [] area ≡ area)
   -- a refused header stands in every place
   pub header_refused : (image nodes area : List ℕ) (i : ℕ) (r : Refusal) → header_outcome image ≡ refusal_means r → list_outcome nodes area ≡ answered [] → i < length nodes
-      → place_in (list_area image nodes area) i ≡ node_words (node.Refused r)
+      → place_in (list_area image nodes area) i ≡ node_words (Err r)
   -- where the node tree is accepted no place tells a refusal
   pub never_refused : (image nodes area : List ℕ) (i : ℕ) → nodes_outcome image ≡ answered [] → list_outcome nodes area ≡ answered [] → i < length nodes
       → get_or (list_area image nodes area) (9 * i) 0 ≡ 0
@@ -305,12 +298,12 @@ pub record RowsFound (tree : HeapTree) (call : List ℕ → ℕ → Meaning) : T
 
 pub record FifthRequest : Type 0 where
   -- a table is accepted exactly when each rule holds, of each column and of any two, and what is handed out stands in its record
-  pub accepted : (block : List ℕ) → (table_outcome block ≡ table_means (table.Says (table_in (table_record block)))) ↔ TableSound block
-  pub column_found : (block : List ℕ) (i : ℕ) → TableSound block → i < column_count (table_record block) → column_outcome block i ≡ column_means (column.Found (column_at (table_record block) i))
+  pub accepted : (block : List ℕ) → (table_outcome block ≡ table_means (Ok (table_in (table_record block)))) ↔ TableSound block
+  pub column_found : (block : List ℕ) (i : ℕ) → TableSound block → i < column_count (table_record block) → column_outcome block i ≡ column_means (Ok (Some (column_at (table_record block) i)))
   pub column_absent : (block : List ℕ) (i : ℕ) → TableSound block → column_count (table_record block) ≤ i → column_outcome block i ≡ absent []
   -- "no two may share a tag, a byte or an existence bit": of any two columns that are handed out
   pub columns_apart : (block : List ℕ) (i j : ℕ) (one other : Column) → (i ≡ j → ⊥)
-      → column_outcome block i ≡ column_means (column.Found one) → column_outcome block j ≡ column_means (column.Found other) → Apart one other
+      → column_outcome block i ≡ column_means (Ok (Some one)) → column_outcome block j ≡ column_means (Ok (Some other)) → Apart one other
   -- "There are as many rows as whole rows fit the rows' bytes", where the table is sound and its rows are held somewhere
   pub rows_counted : (block rows : List ℕ) → (count_outcome block rows ≡ answered (row_count (table_record block) (row_bytes block rows) ∷ [])) ↔ (TableSound block × Held block rows (rows_named block))
   -- "Row numbers past the end and unknown tags are absent"; a column's cell is what its row's bytes say, by its own tag
@@ -329,7 +322,7 @@ pub record FifthRequest : Type 0 where
   pub row_index32_lem : RowsFound row_index32 row32_outcome
   -- all cells of a row in one call: as many as there are columns; each place has the words of what the call for that cell answers, and of no other answer; what lies behind stays, and all where the row is absent
   pub cells_counted : (block rows : List ℕ) (row n : ℕ) (area : List ℕ) → read_row_outcome block rows row area ≡ answered (n ∷ []) → n ≡ column_count (table_record block)
-  pub cell_places : (block rows : List ℕ) (row n : ℕ) (area : List ℕ) (i : ℕ) (given : Cell) → read_row_outcome block rows row area ≡ answered (n ∷ []) → i < n
+  pub cell_places : (block rows : List ℕ) (row n : ℕ) (area : List ℕ) (i : ℕ) (given : Result (Option Cell) Refusal) → read_row_outcome block rows row area ≡ answered (n ∷ []) → i < n
       → (cell_place_in (read_row_area block rows row area) i ≡ cell_words given) ↔ (cell_means given ≡ cell_outcome block rows row (column_at (table_record block) i).tag)
   pub past_the_places : (block rows : List ℕ) (row n : ℕ) (area : List ℕ) → read_row_outcome block rows row area ≡ answered (n ∷ []) → drop (6 * n) (read_row_area block rows row area) ≡ drop (6 * n) area
   pub same_length : (block rows : List ℕ) (row n : ℕ) (area : List ℕ) → read_row_outcome block rows row area ≡ answered (n ∷ []) → length (read_row_area block rows row area) ≡ length area
@@ -349,8 +342,8 @@ pub record SixthRequest : Type 0 where
   pub out_of_bounds : (image : List ℕ) → length_fits image ≡ false → header_outcome image ≡ refused 1 0 0
   -- "pages and blocks must end at or before both it and the image's end, else 6 or 13", over any layout and any trailer
   pub both_ends : (image : List ℕ) (n : ℕ) → (n ≤ file_end image) ↔ ((n ≤ stated_end image) × (n ≤ length image))
-  pub page_behind : (L : Layout) (image : List ℕ) (p : Link) → file_end image < p.offset + 512 → page_fits L image p ≡ Refused (PageOffset at p.offset)
-  pub block_behind : (t : Trailer) (image : List ℕ) (b : Listed) → file_end image < b.offset + room_for t b.size → block_fits t image b ≡ Refused (BlockOffset at b.offset)
+  pub page_behind : (L : Layout) (image : List ℕ) (p : Link) → file_end image < p.offset + 512 → page_fits L image p ≡ Err (PageOffset at p.offset)
+  pub block_behind : (t : Trailer) (image : List ℕ) (b : Listed) → file_end image < b.offset + room_for t b.size → block_fits t image b ≡ Err (BlockOffset at b.offset)
   -- every call on an image
   pub header : EndOfFile header_outcome
   pub check_nodes : EndOfFile nodes_outcome
@@ -370,14 +363,14 @@ pub record SixthRequest : Type 0 where
 -- 7/13, "Older 32-bit files": "What demands 2 and 3 say of trees, blocks and lookups is proved once over the two layouts, with the field sizes as parameters", of any fair edition
 pub record InEdition (E : Edition) : Type 0 where
   -- a tree is accepted exactly when its rules hold; where it is, the lookup answers as the plain scan does, and the listing too
-  pub node_tree : (image : List ℕ) → (tree_fits E.nodes image ≡ Accepted) ↔ TreeSound E.nodes image
-  pub block_tree : (image : List ℕ) → (tree_fits E.blocks image ≡ Accepted) ↔ TreeSound E.blocks image
-  pub node_lookups : (image : List ℕ) → tree_fits E.nodes image ≡ Accepted → Demand3 E.nodes image
-  pub block_lookups : (image : List ℕ) → tree_fits E.blocks image ≡ Accepted → Demand3 E.blocks image
-  pub node_listings : (image : List ℕ) → tree_fits E.nodes image ≡ Accepted → Listing E.nodes image
-  pub block_listings : (image : List ℕ) → tree_fits E.blocks image ≡ Accepted → Listing E.blocks image
+  pub node_tree : (image : List ℕ) → (tree_fits E.nodes image ≡ Ok tt) ↔ TreeSound E.nodes image
+  pub block_tree : (image : List ℕ) → (tree_fits E.blocks image ≡ Ok tt) ↔ TreeSound E.blocks image
+  pub node_lookups : (image : List ℕ) → tree_fits E.nodes image ≡ Ok tt → Demand3 E.nodes image
+  pub block_lookups : (image : List ℕ) → tree_fits E.blocks image ≡ Ok tt → Demand3 E.blocks image
+  pub node_listings : (image : List ℕ) → tree_fits E.nodes image ≡ Ok tt → Listing E.nodes image
+  pub block_listings : (image : List ℕ) → tree_fits E.blocks image ≡ Ok tt → Listing E.blocks image
   -- a block passes its tests exactly when it is listed and its rules hold
-  pub block : (image : List ℕ) (number : ℕ) (listed : Listed) → (checked_block E image number ≡ Block listed) ↔ ListedSound E image number listed
+  pub block : (image : List ℕ) (number : ℕ) (listed : Listed) → (checked_block E image number ≡ Ok listed) ↔ ListedSound E image number listed
   -- a node's data is the byte string s exactly when its blocks, as named, hand it out; and there is a most of it
   pub node_data : (image : List ℕ) (node : ℕ) (s : List ℕ) → (node_content E image node ≡ bytes s) ↔ Named E image node s
   pub node_most : (image : List ℕ) (node : ℕ) (s : List ℕ) → node_content E image node ≡ bytes s → length s ≤ most_data E
@@ -387,7 +380,7 @@ pub record AsBefore (image : List ℕ) : Type 0 where
   pub rules : header_rules image ≡ rules64 image
   pub header_says : says image ≡ says64 image
   pub end : file_end image ≡ end64 image
-  pub header : header_outcome image ≡ header_means (after header.Refused (in_order (rules64 image)) (Says (says64 image)))
+  pub header : header_outcome image ≡ header_means (after Err (in_order (rules64 image)) (Ok (says64 image)))
   pub check_nodes : nodes_outcome image ≡ verdict_means (tree_fits nbt64 image)
   pub check_blocks : blocks_outcome image ≡ verdict_means (tree_fits bbt64 image)
   pub find_node : (node : ℕ) → node_outcome image node ≡ node_means (node_of nbt64 image node)

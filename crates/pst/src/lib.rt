@@ -17,7 +17,7 @@ use table::{ColumnAnswer, FoundRow, TableAnswer};
 use tree::{FoundBlock, FoundNode};
 
 // What the header says.
-pub fn header(image: &[u8]) -> HeaderAnswer
+pub fn header(image: &[u8]) -> Result<Header, Refusal>
     ensures { header_means result ≡ header_outcome image.now }
 {
     header::header_of(image)
@@ -38,7 +38,7 @@ pub fn check_blocks(image: &[u8]) -> Verdict
 }
 
 // A node by the low four bytes of its number.
-pub fn find_node(image: &[u8], node: u64) -> FoundNode
+pub fn find_node(image: &[u8], node: u64) -> Result<Found<Node>, Refusal>
     ensures { node_means result ≡ node_outcome image.now node }
 {
     tree::find_node(image, header::nodes_of(image), node)
@@ -53,35 +53,35 @@ pub fn find_nodes(image: &[u8], nodes: &[u64], places: &mut [u64]) -> Verdict
 }
 
 // A block by its number.
-pub fn find_block(image: &[u8], block: u64) -> FoundBlock
+pub fn find_block(image: &[u8], block: u64) -> Result<Found<Listed>, Refusal>
     ensures { block_means result ≡ block_outcome image.now block }
 {
     tree::find_block(image, header::blocks_of(image), block)
 }
 
 // The first node whose number is at least `from`, by the low four bytes of both.
-pub fn next_node(image: &[u8], from: u64) -> FoundNode
+pub fn next_node(image: &[u8], from: u64) -> Result<Found<Node>, Refusal>
     ensures { node_means result ≡ next_node_outcome image.now from }
 {
     tree::next_node(image, header::nodes_of(image), from)
 }
 
 // The first block whose number, with bit 0 cleared, is at least `from` as given.
-pub fn next_block(image: &[u8], from: u64) -> FoundBlock
+pub fn next_block(image: &[u8], from: u64) -> Result<Found<Listed>, Refusal>
     ensures { block_means result ≡ next_block_outcome image.now from }
 {
     tree::next_block(image, header::blocks_of(image), from)
 }
 
 // A block's size, after its tests.
-pub fn test_block(image: &[u8], block: u64) -> Sized
+pub fn test_block(image: &[u8], block: u64) -> Result<u64, Refusal>
     ensures { sized_means result ≡ test_outcome image.now block }
 {
     block::test_block(image, header::edition_of(image), block)
 }
 
 // A block's bytes at the front of `out`, decoded unless the block is internal.
-pub fn read_block(image: &[u8], block: u64, out: &mut [u8]) -> Sized
+pub fn read_block(image: &[u8], block: u64, out: &mut [u8]) -> Result<u64, Refusal>
     ensures answer { sized_means result ≡ read_outcome image.now block out.old }
     ensures buffer { out.new ≡ read_buffer image.now block out.old }
 {
@@ -89,7 +89,7 @@ pub fn read_block(image: &[u8], block: u64, out: &mut [u8]) -> Sized
 }
 
 // The data of a node at the front of `out`.
-pub fn read_node(image: &[u8], node: u64, out: &mut [u8]) -> NodeRead
+pub fn read_node(image: &[u8], node: u64, out: &mut [u8]) -> Result<Option<u64>, Refusal>
     ensures answer { data_means result ≡ data_outcome image.now node out.old }
     ensures buffer { out.new ≡ data_buffer image.now node out.old }
 {
@@ -134,63 +134,63 @@ pub fn item<'a>(block: &'a [u8], item: u32) -> &'a [u8]
 }
 
 // Where the item starts in the caller's block and how long it is.
-pub fn find_item(block: &[u8], item: u32) -> Span
+pub fn find_item(block: &[u8], item: u32) -> Result<Span, Refusal>
     ensures { span_means result ≡ span_outcome block.now item }
 {
     heap::find_item(block, item)
 }
 
 // A property of the heap on the block.
-pub fn find_property(block: &[u8], id: u16) -> Property
+pub fn find_property(block: &[u8], id: u16) -> Result<Option<Property>, Refusal>
     ensures { property_means result ≡ property_outcome block.now id }
 {
     property::find_property(block, id)
 }
 
 // What the record of a table on the heap says, after the tests of the table and its columns.
-pub fn table(block: &[u8]) -> TableAnswer
+pub fn table(block: &[u8]) -> Result<Table, Refusal>
     ensures { table_means result ≡ table_outcome block.now }
 {
     table::table_of(block)
 }
 
 // A column of the table by its index, from 0.
-pub fn column(block: &[u8], index: u32) -> ColumnAnswer
+pub fn column(block: &[u8], index: u32) -> Result<Option<Column>, Refusal>
     ensures { column_means result ≡ column_outcome block.now index }
 {
     table::column_of(block, index)
 }
 
 // How many rows the table has. `rows` is the block of the rows where they lie in a subnode.
-pub fn count_rows<'a>(block: &'a [u8], rows: &'a [u8]) -> Counted
+pub fn count_rows<'a>(block: &'a [u8], rows: &'a [u8]) -> Result<u64, Refusal>
     ensures { count_means result ≡ count_outcome block.now rows.now }
 {
     cells::count_rows(block, rows)
 }
 
 // The cell of a row in the column with the tag.
-pub fn cell<'a>(block: &'a [u8], rows: &'a [u8], row: u32, tag: u32) -> Cell
+pub fn cell<'a>(block: &'a [u8], rows: &'a [u8], row: u32, tag: u32) -> Result<Option<Cell>, Refusal>
     ensures { cell_means result ≡ cell_outcome block.now rows.now row tag }
 {
     cells::cell_of(block, rows, row, tag)
 }
 
 // The number of the row with the id, from the row index of the table.
-pub fn find_row(block: &[u8], id: u32) -> FoundRow
+pub fn find_row(block: &[u8], id: u32) -> Result<Option<u32>, Refusal>
     ensures { row_means result ≡ row_outcome block.now id }
 {
     table::find_row(block, id)
 }
 
 // The same of a 32-bit file's table.
-pub fn find_row32(block: &[u8], id: u32) -> FoundRow
+pub fn find_row32(block: &[u8], id: u32) -> Result<Option<u32>, Refusal>
     ensures { row_means result ≡ row32_outcome block.now id }
 {
     table::find_row32(block, id)
 }
 
 // All cells of a row, each as by `cell`; of each answer the six words go into its place.
-pub fn read_row<'a>(block: &'a [u8], rows: &'a [u8], row: u32, places: &mut [u64]) -> RowRead
+pub fn read_row<'a>(block: &'a [u8], rows: &'a [u8], row: u32, places: &mut [u64]) -> Result<Option<u64>, Refusal>
     ensures answer { cells_means result ≡ read_row_outcome block.now rows.now row places.old }
     ensures area { places.new ≡ read_row_area block.now rows.now row places.old }
 {

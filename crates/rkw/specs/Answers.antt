@@ -1,22 +1,7 @@
 -- The struct that the C face answers for each case of an answer: refusal is document 01's number, 0 where answered; fields that a case does not use are 0. Assumes nothing: these are definitions.
-use Rattle.std.specs.Prelude.{ℕ, List, get_or}
-use Rattle.refusal.specs.declared.Verdict.{Verdict}
-use Rattle.refusal.specs.declared.Verdict.TheVariants as verdict
+use Rattle.std.specs.Prelude.{ℕ, List, get_or, Option, Some, None, Result, Ok, Err}
 use Rattle.refusal.specs.Number.{number}
-use Rattle.header.specs.declared.HeaderAnswer.{HeaderAnswer}
-use Rattle.header.specs.declared.HeaderAnswer.TheVariants as header
-use Rattle.tree.specs.declared.FoundNode.{FoundNode}
-use Rattle.tree.specs.declared.FoundBlock.{FoundBlock}
-use Rattle.tree.specs.declared.FoundBlock.TheVariants as block
 use Rattle.nodelist.specs.Places.{node_words}
-use Rattle.block.specs.declared.Sized.{Sized}
-use Rattle.block.specs.declared.Sized.TheVariants as sized
-use Rattle.node.specs.declared.NodeRead.{NodeRead}
-use Rattle.node.specs.declared.NodeRead.TheVariants as read
-use Rattle.heap.specs.declared.Span.{Span}
-use Rattle.heap.specs.declared.Span.TheVariants as span
-use Rattle.property.specs.declared.Property.{Property}
-use Rattle.property.specs.declared.Property.TheVariants as property
 use Rattle.rkw.specs.declared.RkwVerdict.{RkwVerdict}
 use Rattle.rkw.specs.declared.RkwHeader.{RkwHeader}
 use Rattle.rkw.specs.declared.RkwNode.{RkwNode}
@@ -26,13 +11,23 @@ use Rattle.rkw.specs.declared.RkwLength.{RkwLength}
 use Rattle.rkw.specs.declared.RkwData.{RkwData}
 use Rattle.rkw.specs.declared.RkwItem.{RkwItem}
 use Rattle.rkw.specs.declared.RkwProperty.{RkwProperty}
+use Rattle.refusal.specs.Order.{Verdict}
+use Rattle.refusal.specs.declared.Refusal.{Refusal}
+use Rattle.header.specs.declared.Header.{Header}
+use Rattle.tree.specs.declared.Found.{Found}
+use Rattle.tree.specs.declared.Node.{Node}
+use Rattle.tree.specs.declared.Listed.{Listed}
+use Rattle.heap.specs.declared.Span.{Span}
+use Rattle.property.specs.declared.Property.{Property}
+use Rattle.property.specs.declared.Property.TheVariants.{Empty, Item, Number, Subnode}
+use Rattle.tree.specs.declared.Found.TheVariants.{Absent, Entry}
 
 unfoldable pub verdict_answer : Verdict → RkwVerdict
-verdict_answer verdict.Accepted = record { refusal = 0; place = 0; more = 0 }
-verdict_answer (verdict.Refused r) = record { refusal = number r.fault; place = r.place; more = r.more }
+verdict_answer (Ok tt) = record { refusal = 0; place = 0; more = 0 }
+verdict_answer (Err r) = record { refusal = number r.fault; place = r.place; more = r.more }
 
-unfoldable pub header_answer : HeaderAnswer → RkwHeader
-header_answer (header.Says h) =
+unfoldable pub header_answer : Result Header Refusal → RkwHeader
+header_answer (Ok h) =
     record {
       refusal = 0;
       place = 0;
@@ -45,7 +40,7 @@ header_answer (header.Says h) =
       end = h.end;
       edition = h.edition;
     }
-header_answer (header.Refused r) =
+header_answer (Err r) =
     record {
       refusal = number r.fault;
       place = r.place;
@@ -90,7 +85,7 @@ of_words words =
     }
 
 -- the same words as in a list of nodes
-unfoldable pub node_answer : FoundNode → RkwNode
+unfoldable pub node_answer : Result (Found Node) Refusal → RkwNode
 node_answer answer = of_words (node_words answer)
 
 -- no block: absent after so many pages, or refused
@@ -108,8 +103,8 @@ no_block refusal place more pages =
       references = 0;
     }
 
-unfoldable pub block_answer : FoundBlock → RkwBlock
-block_answer (block.Found b pages) =
+unfoldable pub block_answer : Result (Found Listed) Refusal → RkwBlock
+block_answer (Ok (Entry b pages)) =
     record {
       refusal = 0;
       place = 0;
@@ -121,28 +116,28 @@ block_answer (block.Found b pages) =
       size = b.size;
       references = b.references;
     }
-block_answer (block.Absent pages) = no_block 0 0 0 pages
-block_answer (block.Refused r) = no_block (number r.fault) r.place r.more 0
+block_answer (Ok (Absent pages)) = no_block 0 0 0 pages
+block_answer (Err r) = no_block (number r.fault) r.place r.more 0
 
 -- of the block test
-unfoldable pub size_answer : Sized → RkwSize
-size_answer (sized.Size n) = record { refusal = 0; place = 0; more = 0; size = n }
-size_answer (sized.Refused r) = record { refusal = number r.fault; place = r.place; more = r.more; size = 0 }
+unfoldable pub size_answer : Result ℕ Refusal → RkwSize
+size_answer (Ok n) = record { refusal = 0; place = 0; more = 0; size = n }
+size_answer (Err r) = record { refusal = number r.fault; place = r.place; more = r.more; size = 0 }
 
 -- of the block read
-unfoldable pub length_answer : Sized → RkwLength
-length_answer (sized.Size n) = record { refusal = 0; place = 0; more = 0; length = n }
-length_answer (sized.Refused r) = record { refusal = number r.fault; place = r.place; more = r.more; length = 0 }
+unfoldable pub length_answer : Result ℕ Refusal → RkwLength
+length_answer (Ok n) = record { refusal = 0; place = 0; more = 0; length = n }
+length_answer (Err r) = record { refusal = number r.fault; place = r.place; more = r.more; length = 0 }
 
 -- of the node read
-unfoldable pub data_answer : NodeRead → RkwData
-data_answer (read.Length n) = record { refusal = 0; place = 0; more = 0; found = 1; length = n }
-data_answer read.Absent = record { refusal = 0; place = 0; more = 0; found = 0; length = 0 }
-data_answer (read.Refused r) = record { refusal = number r.fault; place = r.place; more = r.more; found = 0; length = 0 }
+unfoldable pub data_answer : Result (Option ℕ) Refusal → RkwData
+data_answer (Ok (Some n)) = record { refusal = 0; place = 0; more = 0; found = 1; length = n }
+data_answer (Ok None) = record { refusal = 0; place = 0; more = 0; found = 0; length = 0 }
+data_answer (Err r) = record { refusal = number r.fault; place = r.place; more = r.more; found = 0; length = 0 }
 
-unfoldable pub item_answer : Span → RkwItem
-item_answer (span.Within start length) = record { refusal = 0; place = 0; more = 0; start = start; length = length }
-item_answer (span.Refused r) = record { refusal = number r.fault; place = r.place; more = r.more; start = 0; length = 0 }
+unfoldable pub item_answer : Result Span Refusal → RkwItem
+item_answer (Ok (record { start = start; length = length })) = record { refusal = 0; place = 0; more = 0; start = start; length = length }
+item_answer (Err r) = record { refusal = number r.fault; place = r.place; more = r.more; start = 0; length = 0 }
 
 -- a property that is there: its type, the kind of its value, and the value
 abbrev pub valued_of : ℕ → ℕ → ℕ → RkwProperty
@@ -153,10 +148,10 @@ abbrev pub no_property : ℕ → ℕ → ℕ → RkwProperty
 no_property refusal place more =
     record { refusal = refusal; place = place; more = more; found = 0; code = 0; kind = 0; value = 0 }
 
-unfoldable pub property_answer : Property → RkwProperty
-property_answer (property.Number type value) = valued_of type 0 value
-property_answer (property.Empty type) = valued_of type 1 0
-property_answer (property.Item type item) = valued_of type 2 item
-property_answer (property.Subnode type subnode) = valued_of type 3 subnode
-property_answer property.Absent = no_property 0 0 0
-property_answer (property.Refused r) = no_property (number r.fault) r.place r.more
+unfoldable pub property_answer : Result (Option Property) Refusal → RkwProperty
+property_answer (Ok (Some (Number type value))) = valued_of type 0 value
+property_answer (Ok (Some (Empty type))) = valued_of type 1 0
+property_answer (Ok (Some (Item type item))) = valued_of type 2 item
+property_answer (Ok (Some (Subnode type subnode))) = valued_of type 3 subnode
+property_answer (Ok None) = no_property 0 0 0
+property_answer (Err r) = no_property (number r.fault) r.place r.more

@@ -1,17 +1,6 @@
 -- The struct that the C face answers for each case of an answer about a table. Assumes nothing: these are definitions.
-use Rattle.std.specs.Prelude.{ℕ, List, get_or}
+use Rattle.std.specs.Prelude.{ℕ, List, get_or, Option, Some, None, Result, Ok, Err}
 use Rattle.refusal.specs.Number.{number}
-use Rattle.table.specs.declared.TableAnswer.{TableAnswer}
-use Rattle.table.specs.declared.TableAnswer.TheVariants as table
-use Rattle.table.specs.declared.ColumnAnswer.{ColumnAnswer}
-use Rattle.table.specs.declared.ColumnAnswer.TheVariants as column
-use Rattle.table.specs.declared.FoundRow.{FoundRow}
-use Rattle.table.specs.declared.FoundRow.TheVariants as row
-use Rattle.cells.specs.declared.Counted.{Counted}
-use Rattle.cells.specs.declared.Counted.TheVariants as count
-use Rattle.cells.specs.declared.Cell.{Cell}
-use Rattle.rowcells.specs.declared.RowRead.{RowRead}
-use Rattle.rowcells.specs.declared.RowRead.TheVariants as cells
 use Rattle.rowcells.specs.RowCells.{cell_words}
 use Rattle.pst.specs.Meaning.{kind_of, number_of}
 use Rattle.rkw.specs.declared.RkwTable.{RkwTable}
@@ -20,6 +9,10 @@ use Rattle.rkw.specs.declared.RkwCount.{RkwCount}
 use Rattle.rkw.specs.declared.RkwCell.{RkwCell}
 use Rattle.rkw.specs.declared.RkwRow.{RkwRow}
 use Rattle.rkw.specs.declared.RkwCells.{RkwCells}
+use Rattle.refusal.specs.declared.Refusal.{Refusal}
+use Rattle.table.specs.declared.Table.{Table}
+use Rattle.columns.specs.declared.Column.{Column}
+use Rattle.cells.specs.declared.Cell.{Cell}
 
 -- none: refused
 abbrev pub no_table : ℕ → ℕ → ℕ → RkwTable
@@ -35,8 +28,8 @@ no_table refusal place more =
       rows_value = 0;
     }
 
-unfoldable pub table_answer : TableAnswer → RkwTable
-table_answer (table.Says t) =
+unfoldable pub table_answer : Result Table Refusal → RkwTable
+table_answer (Ok t) =
     record {
       refusal = 0;
       place = 0;
@@ -47,15 +40,15 @@ table_answer (table.Says t) =
       rows_kind = kind_of t.rows;
       rows_value = number_of t.rows;
     }
-table_answer (table.Refused r) = no_table (number r.fault) r.place r.more
+table_answer (Err r) = no_table (number r.fault) r.place r.more
 
 -- none: absent, or refused
 abbrev pub no_column : ℕ → ℕ → ℕ → RkwColumn
 no_column refusal place more =
     record { refusal = refusal; place = place; more = more; found = 0; tag = 0; offset = 0; width = 0; bit = 0 }
 
-unfoldable pub column_answer : ColumnAnswer → RkwColumn
-column_answer (column.Found c) =
+unfoldable pub column_answer : Result (Option Column) Refusal → RkwColumn
+column_answer (Ok (Some c)) =
     record {
       refusal = 0;
       place = 0;
@@ -66,12 +59,12 @@ column_answer (column.Found c) =
       width = c.width;
       bit = c.bit;
     }
-column_answer column.Absent = no_column 0 0 0
-column_answer (column.Refused r) = no_column (number r.fault) r.place r.more
+column_answer (Ok None) = no_column 0 0 0
+column_answer (Err r) = no_column (number r.fault) r.place r.more
 
-unfoldable pub count_answer : Counted → RkwCount
-count_answer (count.Rows n) = record { refusal = 0; place = 0; more = 0; rows = n }
-count_answer (count.Refused r) = record { refusal = number r.fault; place = r.place; more = r.more; rows = 0 }
+unfoldable pub count_answer : Result ℕ Refusal → RkwCount
+count_answer (Ok n) = record { refusal = 0; place = 0; more = 0; rows = n }
+count_answer (Err r) = record { refusal = number r.fault; place = r.place; more = r.more; rows = 0 }
 
 -- a cell that is there, or missing in its row
 abbrev pub valued_cell : ℕ → ℕ → RkwCell
@@ -94,15 +87,15 @@ of_six words =
     }
 
 -- the same words as in a row
-unfoldable pub cell_answer : Cell → RkwCell
+unfoldable pub cell_answer : Result (Option Cell) Refusal → RkwCell
 cell_answer answer = of_six (cell_words answer)
 
-unfoldable pub row_answer : FoundRow → RkwRow
-row_answer (row.Row n) = record { refusal = 0; place = 0; more = 0; found = 1; row = n }
-row_answer row.Absent = record { refusal = 0; place = 0; more = 0; found = 0; row = 0 }
-row_answer (row.Refused r) = record { refusal = number r.fault; place = r.place; more = r.more; found = 0; row = 0 }
+unfoldable pub row_answer : Result (Option ℕ) Refusal → RkwRow
+row_answer (Ok (Some n)) = record { refusal = 0; place = 0; more = 0; found = 1; row = n }
+row_answer (Ok None) = record { refusal = 0; place = 0; more = 0; found = 0; row = 0 }
+row_answer (Err r) = record { refusal = number r.fault; place = r.place; more = r.more; found = 0; row = 0 }
 
-unfoldable pub cells_answer : RowRead → RkwCells
-cells_answer (cells.Cells n) = record { refusal = 0; place = 0; more = 0; found = 1; cells = n }
-cells_answer cells.Absent = record { refusal = 0; place = 0; more = 0; found = 0; cells = 0 }
-cells_answer (cells.Refused r) = record { refusal = number r.fault; place = r.place; more = r.more; found = 0; cells = 0 }
+unfoldable pub cells_answer : Result (Option ℕ) Refusal → RkwCells
+cells_answer (Ok (Some n)) = record { refusal = 0; place = 0; more = 0; found = 1; cells = n }
+cells_answer (Ok None) = record { refusal = 0; place = 0; more = 0; found = 0; cells = 0 }
+cells_answer (Err r) = record { refusal = number r.fault; place = r.place; more = r.more; found = 0; cells = 0 }

@@ -214,12 +214,12 @@ fn verdict_answer(answer: Verdict) -> RkwVerdict
     ensures { result ≡ verdict_answer answer }
 {
     match answer {
-        Verdict::Accepted => RkwVerdict {
+        Ok(()) => RkwVerdict {
             refusal: 0,
             place: 0,
             more: 0,
         },
-        Verdict::Refused(r) => RkwVerdict {
+        Err(r) => RkwVerdict {
             refusal: number_in(r),
             place: r.place,
             more: r.more,
@@ -227,11 +227,11 @@ fn verdict_answer(answer: Verdict) -> RkwVerdict
     }
 }
 
-fn header_answer(answer: HeaderAnswer) -> RkwHeader
+fn header_answer(answer: Result<Header, Refusal>) -> RkwHeader
     ensures { result ≡ header_answer answer }
 {
     match answer {
-        HeaderAnswer::Says(h) => RkwHeader {
+        Ok(h) => RkwHeader {
             refusal: 0,
             place: 0,
             more: 0,
@@ -243,7 +243,7 @@ fn header_answer(answer: HeaderAnswer) -> RkwHeader
             end: h.end,
             edition: h.edition,
         },
-        HeaderAnswer::Refused(r) => RkwHeader {
+        Err(r) => RkwHeader {
             refusal: number_in(r),
             place: r.place,
             more: r.more,
@@ -258,11 +258,11 @@ fn header_answer(answer: HeaderAnswer) -> RkwHeader
     }
 }
 
-fn node_answer(answer: FoundNode) -> RkwNode
+fn node_answer(answer: Result<Found<Node>, Refusal>) -> RkwNode
     ensures { result ≡ node_answer answer }
 {
     match answer {
-        FoundNode::Found(n, pages) => RkwNode {
+        Ok(Found::Entry(n, pages)) => RkwNode {
             refusal: 0,
             place: 0,
             more: 0,
@@ -273,8 +273,8 @@ fn node_answer(answer: FoundNode) -> RkwNode
             subnode: n.subnode,
             parent: n.parent,
         },
-        FoundNode::Absent(pages) => no_node(0, 0, 0, pages),
-        FoundNode::Refused(r) => no_node(number_in(r), r.place, r.more, 0),
+        Ok(Found::Absent(pages)) => no_node(0, 0, 0, pages),
+        Err(r) => no_node(number_in(r), r.place, r.more, 0),
     }
 }
 
@@ -294,11 +294,11 @@ fn no_node(refusal: u64, place: u64, more: u64, pages: u64) -> RkwNode
     }
 }
 
-fn block_answer(answer: FoundBlock) -> RkwBlock
+fn block_answer(answer: Result<Found<Listed>, Refusal>) -> RkwBlock
     ensures { result ≡ block_answer answer }
 {
     match answer {
-        FoundBlock::Found(b, pages) => RkwBlock {
+        Ok(Found::Entry(b, pages)) => RkwBlock {
             refusal: 0,
             place: 0,
             more: 0,
@@ -309,8 +309,8 @@ fn block_answer(answer: FoundBlock) -> RkwBlock
             size: b.size,
             references: b.references,
         },
-        FoundBlock::Absent(pages) => no_block(0, 0, 0, pages),
-        FoundBlock::Refused(r) => no_block(number_in(r), r.place, r.more, 0),
+        Ok(Found::Absent(pages)) => no_block(0, 0, 0, pages),
+        Err(r) => no_block(number_in(r), r.place, r.more, 0),
     }
 }
 
@@ -330,17 +330,17 @@ fn no_block(refusal: u64, place: u64, more: u64, pages: u64) -> RkwBlock
     }
 }
 
-fn size_answer(answer: Sized) -> RkwSize
+fn size_answer(answer: Result<u64, Refusal>) -> RkwSize
     ensures { result ≡ size_answer answer }
 {
     match answer {
-        Sized::Size(size) => RkwSize {
+        Ok(size) => RkwSize {
             refusal: 0,
             place: 0,
             more: 0,
             size,
         },
-        Sized::Refused(r) => RkwSize {
+        Err(r) => RkwSize {
             refusal: number_in(r),
             place: r.place,
             more: r.more,
@@ -349,17 +349,17 @@ fn size_answer(answer: Sized) -> RkwSize
     }
 }
 
-fn length_answer(answer: Sized) -> RkwLength
+fn length_answer(answer: Result<u64, Refusal>) -> RkwLength
     ensures { result ≡ length_answer answer }
 {
     match answer {
-        Sized::Size(length) => RkwLength {
+        Ok(length) => RkwLength {
             refusal: 0,
             place: 0,
             more: 0,
             length,
         },
-        Sized::Refused(r) => RkwLength {
+        Err(r) => RkwLength {
             refusal: number_in(r),
             place: r.place,
             more: r.more,
@@ -368,25 +368,25 @@ fn length_answer(answer: Sized) -> RkwLength
     }
 }
 
-fn data_answer(answer: NodeRead) -> RkwData
+fn data_answer(answer: Result<Option<u64>, Refusal>) -> RkwData
     ensures { result ≡ data_answer answer }
 {
     match answer {
-        NodeRead::Length(length) => RkwData {
+        Ok(Some(length)) => RkwData {
             refusal: 0,
             place: 0,
             more: 0,
             found: 1,
             length,
         },
-        NodeRead::Absent => RkwData {
+        Ok(None) => RkwData {
             refusal: 0,
             place: 0,
             more: 0,
             found: 0,
             length: 0,
         },
-        NodeRead::Refused(r) => RkwData {
+        Err(r) => RkwData {
             refusal: number_in(r),
             place: r.place,
             more: r.more,
@@ -396,18 +396,18 @@ fn data_answer(answer: NodeRead) -> RkwData
     }
 }
 
-fn item_answer(answer: Span) -> RkwItem
+fn item_answer(answer: Result<Span, Refusal>) -> RkwItem
     ensures { result ≡ item_answer answer }
 {
     match answer {
-        Span::Within(start, length) => RkwItem {
+        Ok(Span { start: start, length: length }) => RkwItem {
             refusal: 0,
             place: 0,
             more: 0,
             start: start as u64,
             length: length as u64,
         },
-        Span::Refused(r) => RkwItem {
+        Err(r) => RkwItem {
             refusal: number_in(r),
             place: r.place,
             more: r.more,
@@ -446,16 +446,16 @@ fn no_property(refusal: u64, place: u64, more: u64) -> RkwProperty
     }
 }
 
-fn property_answer(answer: Property) -> RkwProperty
+fn property_answer(answer: Result<Option<Property>, Refusal>) -> RkwProperty
     ensures { result ≡ property_answer answer }
 {
     match answer {
-        Property::Number(code, value) => valued(code, 0, value),
-        Property::Empty(code) => valued(code, 1, 0),
-        Property::Item(code, item) => valued(code, 2, item),
-        Property::Subnode(code, subnode) => valued(code, 3, subnode),
-        Property::Absent => no_property(0, 0, 0),
-        Property::Refused(r) => no_property(number_in(r), r.place, r.more),
+        Ok(Some(Property::Number(code, value))) => valued(code, 0, value),
+        Ok(Some(Property::Empty(code))) => valued(code, 1, 0),
+        Ok(Some(Property::Item(code, item))) => valued(code, 2, item),
+        Ok(Some(Property::Subnode(code, subnode))) => valued(code, 3, subnode),
+        Ok(None) => no_property(0, 0, 0),
+        Err(r) => no_property(number_in(r), r.place, r.more),
     }
 }
 
@@ -479,11 +479,11 @@ fn number_of(named: Named) -> u64
     }
 }
 
-fn table_answer(answer: TableAnswer) -> RkwTable
+fn table_answer(answer: Result<Table, Refusal>) -> RkwTable
     ensures { result ≡ table_answer answer }
 {
     match answer {
-        TableAnswer::Says(t) => {
+        Ok(t) => {
             let rows = t.rows;
             RkwTable {
                 refusal: 0,
@@ -496,7 +496,7 @@ fn table_answer(answer: TableAnswer) -> RkwTable
                 rows_value: number_of(rows),
             }
         }
-        TableAnswer::Refused(r) => no_table(number_in(r), r.place, r.more),
+        Err(r) => no_table(number_in(r), r.place, r.more),
     }
 }
 
@@ -530,11 +530,11 @@ fn no_column(refusal: u64, place: u64, more: u64) -> RkwColumn
     }
 }
 
-fn column_answer(answer: ColumnAnswer) -> RkwColumn
+fn column_answer(answer: Result<Option<Column>, Refusal>) -> RkwColumn
     ensures { result ≡ column_answer answer }
 {
     match answer {
-        ColumnAnswer::Found(c) => RkwColumn {
+        Ok(Some(c)) => RkwColumn {
             refusal: 0,
             place: 0,
             more: 0,
@@ -544,22 +544,22 @@ fn column_answer(answer: ColumnAnswer) -> RkwColumn
             width: c.width as u64,
             bit: c.bit as u64,
         },
-        ColumnAnswer::Absent => no_column(0, 0, 0),
-        ColumnAnswer::Refused(r) => no_column(number_in(r), r.place, r.more),
+        Ok(None) => no_column(0, 0, 0),
+        Err(r) => no_column(number_in(r), r.place, r.more),
     }
 }
 
-fn count_answer(answer: Counted) -> RkwCount
+fn count_answer(answer: Result<u64, Refusal>) -> RkwCount
     ensures { result ≡ count_answer answer }
 {
     match answer {
-        Counted::Rows(rows) => RkwCount {
+        Ok(rows) => RkwCount {
             refusal: 0,
             place: 0,
             more: 0,
             rows,
         },
-        Counted::Refused(r) => RkwCount {
+        Err(r) => RkwCount {
             refusal: number_in(r),
             place: r.place,
             more: r.more,
@@ -595,39 +595,39 @@ fn no_cell(refusal: u64, place: u64, more: u64) -> RkwCell
     }
 }
 
-fn cell_answer(answer: Cell) -> RkwCell
+fn cell_answer(answer: Result<Option<Cell>, Refusal>) -> RkwCell
     ensures { result ≡ cell_answer answer }
 {
     match answer {
-        Cell::Number(value) => valued_cell(0, value),
-        Cell::Empty => valued_cell(1, 0),
-        Cell::Item(item) => valued_cell(2, item as u64),
-        Cell::Subnode(subnode) => valued_cell(3, subnode as u64),
-        Cell::Missing => valued_cell(4, 0),
-        Cell::Absent => no_cell(0, 0, 0),
-        Cell::Refused(r) => no_cell(number_in(r), r.place, r.more),
+        Ok(Some(Cell::Number(value))) => valued_cell(0, value),
+        Ok(Some(Cell::Empty)) => valued_cell(1, 0),
+        Ok(Some(Cell::Item(item))) => valued_cell(2, item as u64),
+        Ok(Some(Cell::Subnode(subnode))) => valued_cell(3, subnode as u64),
+        Ok(Some(Cell::Missing)) => valued_cell(4, 0),
+        Ok(None) => no_cell(0, 0, 0),
+        Err(r) => no_cell(number_in(r), r.place, r.more),
     }
 }
 
-fn row_answer(answer: FoundRow) -> RkwRow
+fn row_answer(answer: Result<Option<u32>, Refusal>) -> RkwRow
     ensures { result ≡ row_answer answer }
 {
     match answer {
-        FoundRow::Row(row) => RkwRow {
+        Ok(Some(row)) => RkwRow {
             refusal: 0,
             place: 0,
             more: 0,
             found: 1,
             row: row as u64,
         },
-        FoundRow::Absent => RkwRow {
+        Ok(None) => RkwRow {
             refusal: 0,
             place: 0,
             more: 0,
             found: 0,
             row: 0,
         },
-        FoundRow::Refused(r) => RkwRow {
+        Err(r) => RkwRow {
             refusal: number_in(r),
             place: r.place,
             more: r.more,
@@ -637,25 +637,25 @@ fn row_answer(answer: FoundRow) -> RkwRow
     }
 }
 
-fn cells_answer(answer: RowRead) -> RkwCells
+fn cells_answer(answer: Result<Option<u64>, Refusal>) -> RkwCells
     ensures { result ≡ cells_answer answer }
 {
     match answer {
-        RowRead::Cells(cells) => RkwCells {
+        Ok(Some(cells)) => RkwCells {
             refusal: 0,
             place: 0,
             more: 0,
             found: 1,
             cells,
         },
-        RowRead::Absent => RkwCells {
+        Ok(None) => RkwCells {
             refusal: 0,
             place: 0,
             more: 0,
             found: 0,
             cells: 0,
         },
-        RowRead::Refused(r) => RkwCells {
+        Err(r) => RkwCells {
             refusal: number_in(r),
             place: r.place,
             more: r.more,

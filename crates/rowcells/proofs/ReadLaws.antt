@@ -13,9 +13,7 @@ use Rattle.laws.specs.Front.{fronted}
 use Rattle.le.specs.Bytes.{part}
 use Rattle.refusal.specs.declared.Fault.TheVariants.{ShortBuffer}
 use Rattle.refusal.specs.declared.Refusal.{Refusal}
-use Rattle.refusal.specs.declared.Verdict.{Verdict}
-use Rattle.refusal.specs.declared.Verdict.TheVariants as verdict
-use Rattle.refusal.specs.Order.{◌needing◌, demand, in_order, after, ◌then◌, FirstFault}
+use Rattle.refusal.specs.Order.{Verdict, ◌needing◌, demand, in_order, after, ◌then◌, FirstFault}
 use Rattle.refusal.proofs.OrderLaws.{goes, ends, in_order_append, refused_exactly}
 use Rattle.keys.proofs.Pieces.{pieces_length, piece_at}
 use Rattle.columns.specs.Record.{column_count}
@@ -24,17 +22,16 @@ use Rattle.columns.proofs.SeatLaws.{tags_length}
 use Rattle.table.specs.Context.{table_record, TableSound}
 use Rattle.cells.specs.Rows.{row_bytes, rows_rules, rows_test, row_count}
 use Rattle.cells.proofs.HeldLaws.{rows_exactly}
-use Rattle.rowcells.specs.declared.RowRead.{RowRead}
-use Rattle.rowcells.specs.declared.RowRead.TheVariants.{Cells, Absent, Refused}
 use Rattle.rowcells.specs.RowCells.{area_rules, place_of, places_of, is_there, read_row_rules, row_read, row_area}
 use Rattle.rowcells.proofs.Words.{place_length}
+use Rattle.std.specs.Prelude.{Option, Some, None, Result, Ok, Err}
 
 -- the area's rule
-area_short : (columns words : ℕ) → words / 6 < columns → in_order (area_rules columns words) ≡ verdict.Refused (ShortBuffer needing columns)
+area_short : (columns words : ℕ) → words / 6 < columns → in_order (area_rules columns words) ≡ Err (ShortBuffer needing columns)
 unfolding area_rules in_order demand after
 area_short columns words h = rw (lt-leb columns (words / 6) h)
 
-area_long : (columns words : ℕ) → columns ≤ words / 6 → in_order (area_rules columns words) ≡ verdict.Accepted
+area_long : (columns words : ℕ) → columns ≤ words / 6 → in_order (area_rules columns words) ≡ Ok tt
 unfolding area_rules in_order demand after
 area_long columns words h = rw (le-leb columns (words / 6) h)
 
@@ -42,19 +39,19 @@ module _ (block rows : List ℕ) (row : ℕ) where
   abbrev count : ℕ
   count = row_count (table_record block) (row_bytes block rows)
 
-  module _ (r : Refusal) (e : rows_test block rows ≡ verdict.Refused r) where
-    pub read_refused : (words : ℕ) → row_read block rows row words ≡ Refused r
+  module _ (r : Refusal) (e : rows_test block rows ≡ Err r) where
+    pub read_refused : (words : ℕ) → row_read block rows row words ≡ Err r
     unfolding row_read
-    read_refused words = ends Refused _ _ r e
+    read_refused words = ends Err _ _ r e
 
     pub area_refused : (area : List ℕ) → row_area block rows row area ≡ area
     unfolding row_area
     area_refused area = ends (λ refusal. area) _ _ r e
 
-  module _ (held : rows_test block rows ≡ verdict.Accepted) where
-    on_read : (words : ℕ) (b : Bool) → is_there block rows row ≡ b → row_read block rows row words ≡ cond b (after Refused (in_order (area_rules (column_count (table_record block)) words)) (Cells (column_count (table_record block)))) Absent
+  module _ (held : rows_test block rows ≡ Ok tt) where
+    on_read : (words : ℕ) (b : Bool) → is_there block rows row ≡ b → row_read block rows row words ≡ cond b (after Err (in_order (area_rules (column_count (table_record block)) words)) (Ok (Some (column_count (table_record block))))) (Ok None)
     unfolding row_read
-    on_read words b t = goes Refused _ _ held ∙ ap (λ (x : Bool). cond x (after Refused (in_order (area_rules (column_count (table_record block)) words)) (Cells (column_count (table_record block)))) Absent) t
+    on_read words b t = goes Err _ _ held ∙ ap (λ (x : Bool). cond x (after Err (in_order (area_rules (column_count (table_record block)) words)) (Ok (Some (column_count (table_record block))))) (Ok None)) t
 
     on_area : (area : List ℕ) (b : Bool) → is_there block rows row ≡ b → row_area block rows row area ≡ cond b (after (λ refusal. area) (in_order (area_rules (column_count (table_record block)) (length area))) (fronted (places_of block rows row) area)) area
     unfolding row_area
@@ -63,55 +60,55 @@ module _ (block rows : List ℕ) (row : ℕ) where
         ∙ ap (λ (x : Bool). cond x (after (λ refusal. area) (in_order (area_rules (column_count (table_record block)) (length area))) (fronted (places_of block rows row) area)) area) t
 
     module _ (past : count < row + 1) where
-      pub read_absent : (words : ℕ) → row_read block rows row words ≡ Absent
+      pub read_absent : (words : ℕ) → row_read block rows row words ≡ Ok None
       read_absent words = on_read words false (lt-leb (row + 1) count past)
 
       pub area_absent : (area : List ℕ) → row_area block rows row area ≡ area
       area_absent area = on_area area false (lt-leb (row + 1) count past)
 
     module _ (there : row + 1 ≤ count) where
-      pub read_short : (words : ℕ) → words / 6 < column_count (table_record block) → row_read block rows row words ≡ Refused (ShortBuffer needing column_count (table_record block))
-      read_short words h = on_read words true (le-leb (row + 1) count there) ∙ ends Refused _ _ _ (area_short _ words h)
+      pub read_short : (words : ℕ) → words / 6 < column_count (table_record block) → row_read block rows row words ≡ Err (ShortBuffer needing column_count (table_record block))
+      read_short words h = on_read words true (le-leb (row + 1) count there) ∙ ends Err _ _ _ (area_short _ words h)
 
       pub area_kept : (area : List ℕ) → length area / 6 < column_count (table_record block) → row_area block rows row area ≡ area
       area_kept area h = on_area area true (le-leb (row + 1) count there) ∙ ends (λ refusal. area) _ _ _ (area_short _ (length area) h)
 
-      pub read_cells : (words : ℕ) → column_count (table_record block) ≤ words / 6 → row_read block rows row words ≡ Cells (column_count (table_record block))
-      read_cells words h = on_read words true (le-leb (row + 1) count there) ∙ goes Refused _ _ (area_long _ words h)
+      pub read_cells : (words : ℕ) → column_count (table_record block) ≤ words / 6 → row_read block rows row words ≡ Ok (Some (column_count (table_record block)))
+      read_cells words h = on_read words true (le-leb (row + 1) count there) ∙ goes Err _ _ (area_long _ words h)
 
       pub area_filled : (area : List ℕ) → column_count (table_record block) ≤ length area / 6 → row_area block rows row area ≡ fronted (places_of block rows row) area
       area_filled area h = on_area area true (le-leb (row + 1) count there) ∙ goes (λ refusal. area) _ _ (area_long _ (length area) h)
 
 -- the refusal of an answer, if it is one
-unfoldable pub refusal_in : RowRead → Verdict
-refusal_in (Cells n) = verdict.Accepted
-refusal_in Absent = verdict.Accepted
-refusal_in (Refused r) = verdict.Refused r
+unfoldable pub refusal_in : Result (Option ℕ) Refusal → Verdict
+refusal_in (Ok (Some n)) = Ok tt
+refusal_in (Ok None) = Ok tt
+refusal_in (Err r) = Err r
 
-refusal_is : (x : RowRead) (r : Refusal) → refusal_in x ≡ verdict.Refused r → x ≡ Refused r
+refusal_is : (x : Result (Option ℕ) Refusal) (r : Refusal) → refusal_in x ≡ Err r → x ≡ Err r
 unfolding refusal_in
-refusal_is (Cells n) r e = cc
-refusal_is Absent r e = cc
-refusal_is (Refused s) r e = cc
+refusal_is (Ok (Some n)) r e = cc
+refusal_is (Ok None) r e = cc
+refusal_is (Err s) r e = cc
 
-refusal_after : (v : Verdict) (x : RowRead) → refusal_in (after Refused v x) ≡ (v then refusal_in x)
+refusal_after : (v : Verdict) (x : Result (Option ℕ) Refusal) → refusal_in (after Err v x) ≡ (v then refusal_in x)
 unfolding refusal_in after
-refusal_after verdict.Accepted x = refl
-refusal_after (verdict.Refused r) x = refl
+refusal_after (Ok tt) x = refl
+refusal_after (Err r) x = refl
 
-then_accepted : (v : Verdict) → (v then verdict.Accepted) ≡ v
+then_accepted : (v : Verdict) → (v then Ok tt) ≡ v
 unfolding after
-then_accepted verdict.Accepted = refl
-then_accepted (verdict.Refused r) = refl
+then_accepted (Ok tt) = refl
+then_accepted (Err r) = refl
 
 module _ (block rows : List ℕ) (row words : ℕ) where
-  inside : Bool → RowRead
-  inside b = cond b (after Refused (in_order (area_rules (column_count (table_record block)) words)) (Cells (column_count (table_record block)))) Absent
+  inside : Bool → Result (Option ℕ) Refusal
+  inside b = cond b (after Err (in_order (area_rules (column_count (table_record block)) words)) (Ok (Some (column_count (table_record block))))) (Ok None)
 
   inside_tried : (b : Bool) → in_order (cond b (area_rules (column_count (table_record block)) words) []) ≡ refusal_in (inside b)
   unfolding inside in_order refusal_in
   inside_tried true =
-      sym (refusal_after (in_order (area_rules (column_count (table_record block)) words)) (Cells (column_count (table_record block))) ∙ then_accepted (in_order (area_rules (column_count (table_record block)) words)))
+      sym (refusal_after (in_order (area_rules (column_count (table_record block)) words)) (Ok (Some (column_count (table_record block)))) ∙ then_accepted (in_order (area_rules (column_count (table_record block)) words)))
   inside_tried false = refl
 
   read_tried : in_order (read_row_rules block rows row words) ≡ refusal_in (row_read block rows row words)
@@ -122,7 +119,7 @@ module _ (block rows : List ℕ) (row words : ℕ) where
       ∙ sym (refusal_after (in_order (rows_rules block rows)) (inside (is_there block rows row)))
 
   -- refused exactly with the first fault
-  pub read_refused_exactly : (r : Refusal) → (row_read block rows row words ≡ Refused r) ↔ FirstFault (read_row_rules block rows row words) r
+  pub read_refused_exactly : (r : Refusal) → (row_read block rows row words ≡ Err r) ↔ FirstFault (read_row_rules block rows row words) r
   unfolding refusal_in
   read_refused_exactly r = (
     (λ e. (refused_exactly (read_row_rules block rows row words) r).0 (read_tried ∙ ap refusal_in e)),
@@ -132,19 +129,19 @@ module _ (block rows : List ℕ) (row words : ℕ) where
 -- what holds where so many cells are answered for an area of so many words
 abbrev pub Taken : List ℕ → List ℕ → ℕ → ℕ → ℕ → Type 0
 Taken block rows row words n =
-    (rows_test block rows ≡ verdict.Accepted) × (row + 1 ≤ row_count (table_record block) (row_bytes block rows)) × (column_count (table_record block) ≤ words / 6) × (n ≡ column_count (table_record block))
+    (rows_test block rows ≡ Ok tt) × (row + 1 ≤ row_count (table_record block) (row_bytes block rows)) × (column_count (table_record block) ≤ words / 6) × (n ≡ column_count (table_record block))
 
 module _ (block rows : List ℕ) (row words n : ℕ) where
-  pub cells_say : row_read block rows row words ≡ Cells n → Taken block rows row words n
+  pub cells_say : row_read block rows row words ≡ Ok (Some n) → Taken block rows row words n
   cells_say e = by (rows_test block rows) refl
     where
-      wrong : {A : Type 0} → (x : RowRead) → row_read block rows row words ≡ x → x ≡ Absent → A
+      wrong : {A : Type 0} → (x : Result (Option ℕ) Refusal) → row_read block rows row words ≡ x → x ≡ Ok None → A
       wrong x f g = let clash : ◌≡◌ {A = ℕ} 0 1 = cc in absurd (omega arith)
 
-      refusing : {A : Type 0} → (x : RowRead) (r : Refusal) → row_read block rows row words ≡ x → x ≡ Refused r → A
+      refusing : {A : Type 0} → (x : Result (Option ℕ) Refusal) (r : Refusal) → row_read block rows row words ≡ x → x ≡ Err r → A
       refusing x r f g = let clash : ◌≡◌ {A = ℕ} 0 1 = cc in absurd (omega arith)
 
-      long : rows_test block rows ≡ verdict.Accepted → row + 1 ≤ row_count (table_record block) (row_bytes block rows) → (b : Bool) → leb (column_count (table_record block)) (words / 6) ≡ b
+      long : rows_test block rows ≡ Ok tt → row + 1 ≤ row_count (table_record block) (row_bytes block rows) → (b : Bool) → leb (column_count (table_record block)) (words / 6) ≡ b
           → Taken block rows row words n
       long held there true t =
           let enough = leb-true (column_count (table_record block)) (words / 6) t in
@@ -152,18 +149,18 @@ module _ (block rows : List ℕ) (row words n : ℕ) where
           (held, there, enough, cc)
       long held there false t = refusing _ _ (read_short block rows row held there words (leb-false (column_count (table_record block)) (words / 6) t)) refl
 
-      inside_by : rows_test block rows ≡ verdict.Accepted → (b : Bool) → leb (row + 1) (row_count (table_record block) (row_bytes block rows)) ≡ b
+      inside_by : rows_test block rows ≡ Ok tt → (b : Bool) → leb (row + 1) (row_count (table_record block) (row_bytes block rows)) ≡ b
           → Taken block rows row words n
       inside_by held true t = long held (leb-true (row + 1) (row_count (table_record block) (row_bytes block rows)) t) (leb (column_count (table_record block)) (words / 6)) refl
       inside_by held false t = wrong _ (read_absent block rows row held (leb-false (row + 1) (row_count (table_record block) (row_bytes block rows)) t) words) refl
 
       by : (v : Verdict) → rows_test block rows ≡ v
           → Taken block rows row words n
-      by verdict.Accepted held = inside_by held (leb (row + 1) (row_count (table_record block) (row_bytes block rows))) refl
-      by (verdict.Refused r) f = refusing _ r (read_refused block rows row r f words) refl
+      by (Ok tt) held = inside_by held (leb (row + 1) (row_count (table_record block) (row_bytes block rows))) refl
+      by (Err r) f = refusing _ r (read_refused block rows row r f words) refl
 
 -- the area, part by part
-module _ (block rows area : List ℕ) (row n : ℕ) (e : row_read block rows row (length area) ≡ Cells n) where
+module _ (block rows area : List ℕ) (row n : ℕ) (e : row_read block rows row (length area) ≡ Ok (Some n)) where
   said : Taken block rows row (length area) n
   said = cells_say block rows row (length area) n e
 
@@ -198,17 +195,17 @@ module _ (block rows area : List ℕ) (row n : ℕ) (e : row_read block rows row
 
 -- an answer that names no cells leaves the area
 module _ (block rows area : List ℕ) (row : ℕ) where
-  pub left_alone : (x : RowRead) → row_read block rows row (length area) ≡ x → ((n : ℕ) → x ≡ Cells n → ⊥) → row_area block rows row area ≡ area
+  pub left_alone : (x : Result (Option ℕ) Refusal) → row_read block rows row (length area) ≡ x → ((n : ℕ) → x ≡ Ok (Some n) → ⊥) → row_area block rows row area ≡ area
   left_alone x e none = by (rows_test block rows) refl
     where
-      long : rows_test block rows ≡ verdict.Accepted → row + 1 ≤ row_count (table_record block) (row_bytes block rows) → (b : Bool) → leb (column_count (table_record block)) (length area / 6) ≡ b → row_area block rows row area ≡ area
+      long : rows_test block rows ≡ Ok tt → row + 1 ≤ row_count (table_record block) (row_bytes block rows) → (b : Bool) → leb (column_count (table_record block)) (length area / 6) ≡ b → row_area block rows row area ≡ area
       long held there true t = absurd (none (column_count (table_record block)) (sym e ∙ read_cells block rows row held there (length area) (leb-true (column_count (table_record block)) (length area / 6) t)))
       long held there false t = area_kept block rows row held there area (leb-false (column_count (table_record block)) (length area / 6) t)
 
-      inside_by : rows_test block rows ≡ verdict.Accepted → (b : Bool) → leb (row + 1) (row_count (table_record block) (row_bytes block rows)) ≡ b → row_area block rows row area ≡ area
+      inside_by : rows_test block rows ≡ Ok tt → (b : Bool) → leb (row + 1) (row_count (table_record block) (row_bytes block rows)) ≡ b → row_area block rows row area ≡ area
       inside_by held true t = long held (leb-true (row + 1) (row_count (table_record block) (row_bytes block rows)) t) (leb (column_count (table_record block)) (length area / 6)) refl
       inside_by held false t = area_absent block rows row held (leb-false (row + 1) (row_count (table_record block) (row_bytes block rows)) t) area
 
       by : (v : Verdict) → rows_test block rows ≡ v → row_area block rows row area ≡ area
-      by verdict.Accepted held = inside_by held (leb (row + 1) (row_count (table_record block) (row_bytes block rows))) refl
-      by (verdict.Refused r) f = area_refused block rows row r f area
+      by (Ok tt) held = inside_by held (leb (row + 1) (row_count (table_record block) (row_bytes block rows))) refl
+      by (Err r) f = area_refused block rows row r f area

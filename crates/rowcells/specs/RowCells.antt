@@ -1,5 +1,5 @@
 -- All cells of a row in one call, beyond document 02: each as the call for one cell gives it. Assumes nothing: these are definitions.
-use Rattle.std.specs.Prelude.{ℕ, ◌+◌, ◌/◌, Bool, cond, List, [], ◌∷◌, ◌++◌, leb, length}
+use Rattle.std.specs.Prelude.{ℕ, ◌+◌, ◌/◌, Bool, cond, List, [], ◌∷◌, ◌++◌, leb, length, Option, Some, None, Result, Ok, Err}
 use Rattle.laws.specs.Front.{fronted}
 use Rattle.refusal.specs.declared.Fault.TheVariants.{ShortBuffer}
 use Rattle.refusal.specs.Number.{number}
@@ -8,22 +8,21 @@ use Rattle.keys.specs.Search.{joined}
 use Rattle.columns.specs.Record.{column_count}
 use Rattle.columns.specs.Columns.{tags}
 use Rattle.table.specs.Context.{table_record}
-use Rattle.cells.specs.declared.Cell.{Cell}
-use Rattle.cells.specs.declared.Cell.TheVariants.{Number, Empty, Item, Subnode, Missing, Absent, Refused}
 use Rattle.cells.specs.Rows.{rows_rules, rows_test, row_bytes, row_count}
 use Rattle.cells.specs.Cells.{cell_of}
-use Rattle.rowcells.specs.declared.RowRead.{RowRead}
-use Rattle.rowcells.specs.declared.RowRead.TheVariants as answer
+use Rattle.refusal.specs.declared.Refusal.{Refusal}
+use Rattle.cells.specs.declared.Cell.{Cell}
+use Rattle.cells.specs.declared.Cell.TheVariants.{Empty, Item, Missing, Number, Subnode}
 
 -- an answer as the six words of a place: refusal, place, more, found, kind, value; 0 for what the answer does not have
-unfoldable pub cell_words : Cell → List ℕ
-cell_words (Number value) = 0 ∷ 0 ∷ 0 ∷ 1 ∷ 0 ∷ value ∷ []
-cell_words Empty = 0 ∷ 0 ∷ 0 ∷ 1 ∷ 1 ∷ 0 ∷ []
-cell_words (Item item) = 0 ∷ 0 ∷ 0 ∷ 1 ∷ 2 ∷ item ∷ []
-cell_words (Subnode subnode) = 0 ∷ 0 ∷ 0 ∷ 1 ∷ 3 ∷ subnode ∷ []
-cell_words Missing = 0 ∷ 0 ∷ 0 ∷ 1 ∷ 4 ∷ 0 ∷ []
-cell_words Absent = 0 ∷ 0 ∷ 0 ∷ 0 ∷ 0 ∷ 0 ∷ []
-cell_words (Refused r) = number r.fault ∷ r.place ∷ r.more ∷ 0 ∷ 0 ∷ 0 ∷ []
+unfoldable pub cell_words : Result (Option Cell) Refusal → List ℕ
+cell_words (Ok (Some (Number value))) = 0 ∷ 0 ∷ 0 ∷ 1 ∷ 0 ∷ value ∷ []
+cell_words (Ok (Some Empty)) = 0 ∷ 0 ∷ 0 ∷ 1 ∷ 1 ∷ 0 ∷ []
+cell_words (Ok (Some (Item item))) = 0 ∷ 0 ∷ 0 ∷ 1 ∷ 2 ∷ item ∷ []
+cell_words (Ok (Some (Subnode subnode))) = 0 ∷ 0 ∷ 0 ∷ 1 ∷ 3 ∷ subnode ∷ []
+cell_words (Ok (Some Missing)) = 0 ∷ 0 ∷ 0 ∷ 1 ∷ 4 ∷ 0 ∷ []
+cell_words (Ok None) = 0 ∷ 0 ∷ 0 ∷ 0 ∷ 0 ∷ 0 ∷ []
+cell_words (Err r) = number r.fault ∷ r.place ∷ r.more ∷ 0 ∷ 0 ∷ 0 ∷ []
 
 -- an area has its words divided by six places, rounded down; one with fewer places than there are columns is refused with 17
 unfoldable pub area_rules : ℕ → ℕ → List Rule
@@ -46,8 +45,8 @@ module _ (block rows : List ℕ) (row : ℕ) where
   read_row_rules words = rows_rules block rows ++ cond is_there (area_rules (column_count (table_record block)) words) []
 
   -- a row number past the end is absent
-  unfoldable pub row_read : ℕ → RowRead
-  row_read words = after answer.Refused (rows_test block rows) (cond is_there (after answer.Refused (in_order (area_rules (column_count (table_record block)) words)) (answer.Cells (column_count (table_record block)))) answer.Absent)
+  unfoldable pub row_read : ℕ → Result (Option ℕ) Refusal
+  row_read words = after Err (rows_test block rows) (cond is_there (after Err (in_order (area_rules (column_count (table_record block)) words)) (Ok (Some (column_count (table_record block))))) (Ok None))
 
   -- the area at exit: nothing is written where the row is absent or the call refused, and what lies behind the places stays
   unfoldable pub row_area : List ℕ → List ℕ

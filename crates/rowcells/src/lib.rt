@@ -12,13 +12,6 @@ ghost use Rattle.rowcells.specs.RowCells.{cell_words, places_of, row_read, row_a
 use cells::Cell;
 use refusal::{Fault, Refusal, Verdict};
 
-#[derive(Clone, Copy)]
-pub enum RowRead {
-    Cells(u64),
-    Absent,
-    Refused(Refusal),
-}
-
 // The six words of a place, written one by one.
 fn put_words(
     refusal: u64,
@@ -41,18 +34,18 @@ fn put_words(
 }
 
 // A cell at the front of the words.
-fn put_cell(cell: Cell, words: &mut [u64])
+fn put_cell(cell: Result<Option<Cell>, Refusal>, words: &mut [u64])
     requires { 6 ≤ length words.old }
     ensures { words.new ≡ fronted (cell_words cell) words.old }
 {
     match cell {
-        Cell::Number(value) => put_words(0, 0, 0, 1, 0, value, words),
-        Cell::Empty => put_words(0, 0, 0, 1, 1, 0, words),
-        Cell::Item(item) => put_words(0, 0, 0, 1, 2, item as u64, words),
-        Cell::Subnode(subnode) => put_words(0, 0, 0, 1, 3, subnode as u64, words),
-        Cell::Missing => put_words(0, 0, 0, 1, 4, 0, words),
-        Cell::Absent => put_words(0, 0, 0, 0, 0, 0, words),
-        Cell::Refused(r) => {
+        Ok(Some(Cell::Number(value))) => put_words(0, 0, 0, 1, 0, value, words),
+        Ok(Some(Cell::Empty)) => put_words(0, 0, 0, 1, 1, 0, words),
+        Ok(Some(Cell::Item(item))) => put_words(0, 0, 0, 1, 2, item as u64, words),
+        Ok(Some(Cell::Subnode(subnode))) => put_words(0, 0, 0, 1, 3, subnode as u64, words),
+        Ok(Some(Cell::Missing)) => put_words(0, 0, 0, 1, 4, 0, words),
+        Ok(None) => put_words(0, 0, 0, 0, 0, 0, words),
+        Err(r) => {
             let fault = r.fault;
             let number = refusal::number_of(fault) as u64;
             put_words(number, r.place, r.more, 0, 0, 0, words)
@@ -62,7 +55,7 @@ fn put_cell(cell: Cell, words: &mut [u64])
 
 // Each column's cell into its place. The table is tested before, once.
 fn fill<'a>(block: &'a [u8], rows: &'a [u8], row: usize, places: &mut [u64])
-    requires { (rows_test block.now rows.now ≡ Verdict.Accepted) × (row < row_count (table_record block.now) (row_bytes block.now rows.now)) × (6 * column_count (table_record block.now) ≤ length places.old) }
+    requires { (rows_test block.now rows.now ≡ Ok tt) × (row < row_count (table_record block.now) (row_bytes block.now rows.now)) × (6 * column_count (table_record block.now) ≤ length places.old) }
     ensures { places.new ≡ fronted (places_of block.now rows.now row) places.old }
 {
     let table = table::record_of(block);
@@ -81,10 +74,10 @@ fn fill<'a>(block: &'a [u8], rows: &'a [u8], row: usize, places: &mut [u64])
 }
 
 // 17, with the number of places that there must be.
-fn short_area(places: u64) -> RowRead
-    ensures { result ≡ RowRead.Refused (Fault.ShortBuffer needing places) }
+fn short_area(places: u64) -> Result<Option<u64>, Refusal>
+    ensures { result ≡ Err (Fault.ShortBuffer needing places) }
 {
-    RowRead::Refused(Refusal {
+    Err(Refusal {
         fault: Fault::ShortBuffer,
         place: 0,
         more: places,
@@ -92,31 +85,31 @@ fn short_area(places: u64) -> RowRead
 }
 
 // The row of an accepted table: absent past the end, then 17, then its cells.
-fn read_in<'a>(block: &'a [u8], rows: &'a [u8], row: u32, places: &mut [u64]) -> RowRead
-    requires { rows_test block.now rows.now ≡ Verdict.Accepted }
+fn read_in<'a>(block: &'a [u8], rows: &'a [u8], row: u32, places: &mut [u64]) -> Result<Option<u64>, Refusal>
+    requires { rows_test block.now rows.now ≡ Ok tt }
     ensures answer { result ≡ row_read block.now rows.now row (length places.old) }
     ensures area { places.new ≡ row_area block.now rows.now row places.old }
 {
     let i = row as usize;
     if cells::row_count(block, cells::row_bytes(block, rows)) < i + 1 {
-        return RowRead::Absent;
+        return Ok(None);
     }
     let count = columns::column_count(table::record_of(block));
     if places.len() / 6 < count {
         return short_area(count as u64);
     }
     fill(block, rows, i, places);
-    RowRead::Cells(count as u64)
+    Ok(Some(count as u64))
 }
 
 // All cells of a row, of a block that need not hold a table, each as the call for one cell answers it.
-pub fn read_row<'a>(block: &'a [u8], rows: &'a [u8], row: u32, places: &mut [u64]) -> RowRead
+pub fn read_row<'a>(block: &'a [u8], rows: &'a [u8], row: u32, places: &mut [u64]) -> Result<Option<u64>, Refusal>
     ensures answer { result ≡ row_read block.now rows.now row (length places.old) }
     ensures area { places.new ≡ row_area block.now rows.now row places.old }
 {
     let verdict = cells::test_rows(block, rows);
     match verdict {
-        Verdict::Refused(refusal) => RowRead::Refused(refusal),
-        Verdict::Accepted => read_in(block, rows, row, places),
+        Err(refusal) => Err(refusal),
+        Ok(()) => read_in(block, rows, row, places),
     }
 }

@@ -5,18 +5,15 @@ use mathlib.Core.Logic.{⊎_elim}
 use mathlib.Core.List.{List, [], ◌∷◌, map, Memᴰ}
 use lib.ListN.{take, drop}
 use Rattle.refusal.specs.declared.Refusal.{Refusal}
-use Rattle.refusal.specs.declared.Verdict.{Verdict}
-use Rattle.refusal.specs.declared.Verdict.TheVariants.{Accepted, Refused}
-use Rattle.refusal.specs.Order.{Rule, after, FirstFault}
+use Rattle.refusal.specs.Order.{Verdict, Rule, after, FirstFault}
 use Rattle.refusal.proofs.OrderLaws.{append_fault}
-use Rattle.keys.specs.declared.Seat.{Seat}
-use Rattle.keys.specs.declared.Seat.TheVariants.{At, Nowhere}
 use Rattle.keys.specs.declared.Sought.{Sought}
 use Rattle.keys.specs.declared.Sought.TheVariants.{Equal, AtLeast}
 use Rattle.keys.specs.Search.{joined, last_at_most, start}
 use Rattle.search.specs.SearchTree.{SearchTree, test, children, rules_under, Reached, at_root, below}
 use Rattle.search.specs.Answer.{Answer, found, absent, refused, where_absent, turns_of}
 use Rattle.search.specs.Descent.{from_seat, low_in, picked, descend, of_read, rules_read}
+use Rattle.std.specs.Prelude.{Option, Some, None, Ok, Err}
 
 -- things that are picked stand among those picked from
 member_drop : {A : Type 0} (n : ℕ) (x : A) (xs : List A) → Memᴰ x (drop n xs) → Memᴰ x xs
@@ -30,10 +27,10 @@ member_take (suc n) x (y ∷ ys) (Memᴰ.tail m) = Memᴰ.tail (member_take n x 
 member_take zero x xs h = elim h [ ]
 member_take (suc n) x [] h = elim h [ ]
 
-member_picked : {B : Type 0} (s : Sought) (seat : Seat) (c : B) (cs : List B) → Memᴰ c (from_seat s seat cs) → Memᴰ c cs
+member_picked : {B : Type 0} (s : Sought) (seat : Option ℕ) (c : B) (cs : List B) → Memᴰ c (from_seat s seat cs) → Memᴰ c cs
 unfolding from_seat
-member_picked Equal (At i) c cs m = member_drop i c cs (member_take 1 c (drop i cs) m)
-member_picked Equal Nowhere c cs m = elim m [ ]
+member_picked Equal (Some i) c cs m = member_drop i c cs (member_take 1 c (drop i cs) m)
+member_picked Equal None c cs m = elim m [ ]
 member_picked AtLeast seat c cs m = member_drop (start seat) c cs m
 
 -- the first fault of lists in a row is that of one of them
@@ -77,8 +74,8 @@ module _ {B E : Type 0} (F : SearchTree B E) (top : ℕ) (root : B) where
 
     after_fault : (v : Verdict) (rs : List Rule) (r : Refusal) → FirstFault (after (λ s. []) v rs) r → FirstFault rs r
     unfolding after
-    after_fault Accepted rs r f = f
-    after_fault (Refused _) rs r f = elim f [ ]
+    after_fault (Ok tt) rs r f = f
+    after_fault (Err _) rs r f = elim f [ ]
 
     turns_fault : (go : B → Answer E) (list : B → List Rule) (cs : List B) (r : Refusal) (X : Type 0) → ((c : B) → Memᴰ c cs → FirstFault (list c) r → X)
         → FirstFault (turns_of go list cs) r → X

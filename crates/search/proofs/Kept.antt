@@ -6,11 +6,7 @@ use native.Mathlib.Nat.{le_of_lt, le_trans}
 use native.Mathlib.Omega.{arith}
 use lib.Dec.{leb}
 use borrow.Author.Tests.{le-leb}
-use Rattle.refusal.specs.declared.Verdict.TheVariants.{Accepted}
-use Rattle.keys.specs.declared.End.{End}
 use Rattle.keys.specs.declared.Range.{Range}
-use Rattle.keys.specs.declared.Seat.{Seat}
-use Rattle.keys.specs.declared.Seat.TheVariants.{At, Nowhere}
 use Rattle.keys.specs.declared.Sought.TheVariants.{Equal}
 use Rattle.keys.specs.Plain.{All, BeforeEnd, Inside}
 use Rattle.keys.specs.Search.{or_first, last_at_most}
@@ -22,22 +18,23 @@ use Rattle.search.specs.Promises.{Sorted}
 use Rattle.search.proofs.Tiles.{Tiled, childless, last, more, first_under, seat_in, none_chosen}
 use Rattle.search.proofs.Searched.{all_from_seat}
 use Rattle.search.proofs.Checked.{children_tiled}
+use Rattle.std.specs.Prelude.{Option, Some, None, Ok}
 
 -- a child that keeps a key: it is the one gone into, and its parent's range, from `from` to `to`, has the key too
-pub record Keeps {B : Type 0} (range : B → Range) (to : End) (from k : ℕ) (cs : List B) (c : B) : Type 0 where
+pub record Keeps {B : Type 0} (range : B → Range) (to : Option ℕ) (from k : ℕ) (cs : List B) (c : B) : Type 0 where
   pub picks : from_seat Equal (seat_in range k cs) cs ≡ c ∷ []
   pub low : from ≤ k
   pub high : BeforeEnd to k
 
-module _ {B : Type 0} (range : B → Range) (to : End) (k : ℕ) where
+module _ {B : Type 0} (range : B → Range) (to : Option ℕ) (k : ℕ) where
   -- a seat among the children behind the first
-  later : (c x : B) (cs : List B) (b : _) (seat : Seat) → from_seat Equal seat cs ≡ x ∷ [] → from_seat Equal (or_first b seat) (c ∷ cs) ≡ x ∷ []
+  later : (c x : B) (cs : List B) (b : _) (seat : Option ℕ) → from_seat Equal seat cs ≡ x ∷ [] → from_seat Equal (or_first b seat) (c ∷ cs) ≡ x ∷ []
   unfolding from_seat or_first
-  later c x cs b (At i) e = e
-  later c x cs b Nowhere e = let clash : ◌≡◌ {A = ℕ} 0 1 = cc in absurd (omega arith)
+  later c x cs b (Some i) e = e
+  later c x cs b None e = let clash : ◌≡◌ {A = ℕ} 0 1 = cc in absurd (omega arith)
 
   -- the first is chosen, where none behind it is
-  first_chosen : (c : B) (cs : List B) → (range c).from ≤ k → seat_in range k cs ≡ Nowhere → from_seat Equal (seat_in range k (c ∷ cs)) (c ∷ cs) ≡ c ∷ []
+  first_chosen : (c : B) (cs : List B) → (range c).from ≤ k → seat_in range k cs ≡ None → from_seat Equal (seat_in range k (c ∷ cs)) (c ∷ cs) ≡ c ∷ []
   unfolding from_seat or_first last_at_most
   first_chosen c cs h e = rw (le-leb (range c).from k h, e)
 
@@ -45,12 +42,12 @@ module _ {B : Type 0} (range : B → Range) (to : End) (k : ℕ) where
   unfolding last_at_most
   tiles_keep childless = tt
   tiles_keep (last {c} f u e) =
-      ((λ h. record { picks = first_chosen c [] h.0 refl; low = le_trans f h.0; high = subst (λ (w : End). BeforeEnd w k) e h.1 }), tt)
+      ((λ h. record { picks = first_chosen c [] h.0 refl; low = le_trans f h.0; high = subst (λ (w : Option ℕ). BeforeEnd w k) e h.1 }), tt)
   tiles_keep {from} (more {c} {d} {cs} f l e t) = (here, all_map there (d ∷ cs) (tiles_keep t))
     where
       here : Inside (range c) k → Keeps range to from k (c ∷ d ∷ cs) c
       here h =
-          let less : k < (range d).from = subst (λ (w : End). BeforeEnd w k) e h.1 in
+          let less : k < (range d).from = subst (λ (w : Option ℕ). BeforeEnd w k) e h.1 in
           record {
             picks = first_chosen c (d ∷ cs) h.0 (none_chosen range k less t);
             low = le_trans f h.0;
@@ -67,7 +64,7 @@ module _ {B : Type 0} (range : B → Range) (to : End) (k : ℕ) where
           }
 
 -- the child that one key goes into is the one that every key of its range goes into, and its range is part of the parent's
-pub kept : {B E : Type 0} (F : SearchTree B E) → Sorted F → (l : ℕ) (b c : B) (j k : ℕ) → test F (suc l) b ≡ Accepted → picked F Equal j (children F l b) ≡ c ∷ []
+pub kept : {B E : Type 0} (F : SearchTree B E) → Sorted F → (l : ℕ) (b c : B) (j k : ℕ) → test F (suc l) b ≡ Ok tt → picked F Equal j (children F l b) ≡ c ∷ []
     → Inside (F.range c) k → (picked F Equal k (children F l b) ≡ c ∷ []) × Inside (F.range b) k
 kept {B} F sorted l b c j k ok e h =
     let cs = children F l b in

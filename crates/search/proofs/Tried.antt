@@ -2,26 +2,24 @@
 use Prim.Native.Nat.{ℕ, zero, suc, ◌+◌}
 use mathlib.Core.Path.{◌≡◌, refl, sym, ap, ◌∙◌}
 use mathlib.Core.Logic.{◌↔◌}
-use mathlib.Core.Option.{Option, none, some}
 use mathlib.Core.List.{List, [], ◌∷◌, ◌++◌, append-nil}
 use native.Mathlib.Omega.{arith}
 use lib.ListN.{length, length-append}
 use Rattle.refusal.specs.declared.Refusal.{Refusal}
-use Rattle.refusal.specs.declared.Verdict.{Verdict}
-use Rattle.refusal.specs.declared.Verdict.TheVariants.{Accepted, Refused}
-use Rattle.refusal.specs.Order.{Rule, in_order, after, ◌then◌, FirstFault}
+use Rattle.refusal.specs.Order.{Verdict, Rule, in_order, after, ◌then◌, FirstFault}
 use Rattle.refusal.proofs.OrderLaws.{in_order_append, refused_exactly}
 use Rattle.keys.specs.declared.Sought.{Sought}
 use Rattle.search.specs.SearchTree.{SearchTree, test, children}
 use Rattle.search.specs.Answer.{Answer, found, absent, refused, answer, counted, or_next, in_turn, where_absent, turns_of}
 use Rattle.search.specs.Descent.{picked, descend, of_read, reads, rules_read}
 use Rattle.search.specs.Promises.{Counts}
+use Rattle.std.specs.Prelude.{Ok, Err, Option, Some, None}
 
 -- the refusal of an answer, if it is one
 unfoldable pub verdict_of : {E : Type 0} → Answer E → Verdict
-verdict_of (found e n) = Accepted
-verdict_of (absent n) = Accepted
-verdict_of (refused r) = Refused r
+verdict_of (found e n) = Ok tt
+verdict_of (absent n) = Ok tt
+verdict_of (refused r) = Err r
 
 module _ {E : Type 0} where
   verdict_counted : (n : ℕ) (a : Answer E) → verdict_of (counted n a) ≡ verdict_of a
@@ -30,18 +28,18 @@ module _ {E : Type 0} where
   verdict_counted n (absent m) = refl
   verdict_counted n (refused r) = refl
 
-  verdict_answer_lem : (o : Option E) (n : ℕ) → verdict_of (answer o n) ≡ Accepted
+  verdict_answer_lem : (o : Option E) (n : ℕ) → verdict_of (answer o n) ≡ Ok tt
   unfolding verdict_of answer
-  verdict_answer_lem none n = refl
-  verdict_answer_lem (some e) n = refl
+  verdict_answer_lem None n = refl
+  verdict_answer_lem (Some e) n = refl
 
   -- what comes after an acceptance
   verdict_after : (v : Verdict) (a : Answer E) → verdict_of (after refused v a) ≡ (v then verdict_of a)
   unfolding verdict_of after
-  verdict_after Accepted a = refl
-  verdict_after (Refused r) a = refl
+  verdict_after (Ok tt) a = refl
+  verdict_after (Err r) a = refl
 
-  verdict_is : (a : Answer E) (r : Refusal) → verdict_of a ≡ Refused r → a ≡ refused r
+  verdict_is : (a : Answer E) (r : Refusal) → verdict_of a ≡ Err r → a ≡ refused r
   unfolding verdict_of
   verdict_is (found e n) r h = cc
   verdict_is (absent n) r h = cc
@@ -70,13 +68,13 @@ module _ {E : Type 0} where
 
   pub checked_counts : (n : ℕ) (v : Verdict) (a : Answer E) → Counts n a → Counts n (after refused v a)
   unfolding after Counts
-  checked_counts n Accepted a h = h
-  checked_counts n (Refused r) a h = tt
+  checked_counts n (Ok tt) a h = h
+  checked_counts n (Err r) a h = tt
 
   pub leaf_counts : (o : Option E) → Counts 1 (answer o 1)
   unfolding answer Counts
-  leaf_counts none = refl
-  leaf_counts (some e) = refl
+  leaf_counts None = refl
+  leaf_counts (Some e) = refl
 
 module _ {B E : Type 0} (F : SearchTree B E) (s : Sought) (k : ℕ) where
   abbrev go : ℕ → B → Answer E
@@ -95,17 +93,17 @@ module _ {B E : Type 0} (F : SearchTree B E) (s : Sought) (k : ℕ) where
   after_verdict : (v : Verdict) (rs : List Rule) (n : ℕ) (a : Answer E) → in_order rs ≡ verdict_of a
       → (v then in_order (after (λ r. []) v rs)) ≡ verdict_of (after refused v (counted n a))
   unfolding after verdict_of
-  after_verdict Accepted rs n a h = h ∙ sym (verdict_counted n a)
-  after_verdict (Refused r) rs n a h = refl
+  after_verdict (Ok tt) rs n a h = h ∙ sym (verdict_counted n a)
+  after_verdict (Err r) rs n a h = refl
 
   pub tried : (l : ℕ) (b : B) → in_order (rules_read F s k l b) ≡ verdict_of (go l b)
   unfolding of_read descend test after
   tried zero b =
       sym (verdict_after (in_order (F.rules zero b)) _ ∙ ap (λ v. in_order (F.rules zero b) then v) (verdict_answer_lem _ 1) ∙ then_accepted (in_order (F.rules zero b)))
     where
-      then_accepted : (v : Verdict) → (v then Accepted) ≡ v
-      then_accepted Accepted = refl
-      then_accepted (Refused r) = refl
+      then_accepted : (v : Verdict) → (v then Ok tt) ≡ v
+      then_accepted (Ok tt) = refl
+      then_accepted (Err r) = refl
   tried (suc l) b =
       in_order_append (F.rules (suc l) b) _
       ∙ after_verdict (in_order (F.rules (suc l) b)) _ _ (in_turn (λ c. go l c) (picked F s k (children F l b))) (turns_verdict l (picked F s k (children F l b)) (tried l))
@@ -132,8 +130,8 @@ module _ {B E : Type 0} (F : SearchTree B E) (s : Sought) (k : ℕ) where
   after_counts : (b : B) (v : Verdict) (xs : List B) (a : Answer E) → Counts (length xs) a
       → Counts (length ((b ∷ []) ++ after (λ r. []) v xs)) (after refused v (counted 1 a))
   unfolding after Counts
-  after_counts b Accepted xs a h = one_counts (length xs) a h
-  after_counts b (Refused r) xs a h = tt
+  after_counts b (Ok tt) xs a h = one_counts (length xs) a h
+  after_counts b (Err r) xs a h = tt
 
   pub reads_counted : (l : ℕ) (b : B) → Counts (length (reads F s k l b)) (go l b)
   unfolding of_read descend

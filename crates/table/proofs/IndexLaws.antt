@@ -8,7 +8,6 @@ use Rattle.le.proofs.FieldLaws.{field_part}
 use native.Mathlib.Nat.{pow-le-pow_right, zero-lt-suc}
 use native.Mathlib.Omega.{arith}
 use Rattle.refusal.specs.declared.Refusal.{Refusal}
-use Rattle.refusal.specs.declared.Verdict.TheVariants.{Accepted, Refused}
 use Rattle.refusal.specs.Order.{◌then◌, in_order}
 use Rattle.refusal.proofs.OrderLaws.{goes, ends, then_left, then_right, in_order_append}
 use Rattle.heaptree.specs.declared.HeapTree.{HeapTree}
@@ -16,30 +15,28 @@ use Rattle.heaptree.specs.Value.{FairTree}
 use Rattle.heaptree.specs.Root.{root_rules, Rooted}
 use Rattle.heaptree.specs.Lookup.{from_root}
 use Rattle.heaptree.proofs.RootLaws.{root_exactly}
-use Rattle.table.specs.declared.TableAnswer.TheVariants as whole
-use Rattle.table.specs.declared.ColumnAnswer.TheVariants as single
-use Rattle.table.specs.declared.FoundRow.TheVariants as row
 use Rattle.table.specs.Context.{table_record, table_rules, table_test, TableSound}
 use Rattle.table.specs.Says.{table_in, table_of, column_in, column_of}
 use Rattle.table.specs.RowIndex.{FairIndex, row_from, index_root, index_test, row_of}
 use Rattle.table.proofs.ContextLaws.{table_exactly}
+use Rattle.std.specs.Prelude.{Some, Ok, Err}
 
 module _ (block : List ℕ) where
-  pub table_refused : (r : Refusal) → table_test block ≡ Refused r → table_of block ≡ whole.Refused r
+  pub table_refused : (r : Refusal) → table_test block ≡ Err r → table_of block ≡ Err r
   unfolding table_of
-  table_refused r e = ends whole.Refused _ _ r e
+  table_refused r e = ends Err _ _ r e
 
-  pub table_on : table_test block ≡ Accepted → table_of block ≡ whole.Says (table_in (table_record block))
+  pub table_on : table_test block ≡ Ok tt → table_of block ≡ Ok (table_in (table_record block))
   unfolding table_of
-  table_on e = goes whole.Refused _ _ e
+  table_on e = goes Err _ _ e
 
-  pub column_refused : (index : ℕ) (r : Refusal) → table_test block ≡ Refused r → column_of block index ≡ single.Refused r
+  pub column_refused : (index : ℕ) (r : Refusal) → table_test block ≡ Err r → column_of block index ≡ Err r
   unfolding column_of
-  column_refused index r e = ends single.Refused _ _ r e
+  column_refused index r e = ends Err _ _ r e
 
-  pub column_on : (index : ℕ) → table_test block ≡ Accepted → column_of block index ≡ column_in (table_record block) index
+  pub column_on : (index : ℕ) → table_test block ≡ Ok tt → column_of block index ≡ column_in (table_record block) index
   unfolding column_of
-  column_on index e = goes single.Refused _ _ e
+  column_on index e = goes Err _ _ e
 
 -- a fair row index is a fair tree, and its row numbers fit four bytes
 module _ (tree : HeapTree) (fair : FairIndex tree) where
@@ -54,27 +51,27 @@ module _ (tree : HeapTree) (block : List ℕ) where
   unfolding index_test table_test
   table_first = in_order_append (table_rules block) (root_rules tree block (index_root block))
 
-  pub wrong_table : (r : Refusal) → table_test block ≡ Refused r → index_test tree block ≡ table_test block
-  wrong_table r e = table_first ∙ ends Refused _ _ r e ∙ sym e
+  pub wrong_table : (r : Refusal) → table_test block ≡ Err r → index_test tree block ≡ table_test block
+  wrong_table r e = table_first ∙ ends Err _ _ r e ∙ sym e
 
-  pub right_table : table_test block ≡ Accepted → index_test tree block ≡ in_order (root_rules tree block (index_root block))
-  right_table e = table_first ∙ goes Refused _ _ e
+  pub right_table : table_test block ≡ Ok tt → index_test tree block ≡ in_order (root_rules tree block (index_root block))
+  right_table e = table_first ∙ goes Err _ _ e
 
   -- accepted exactly when the table is sound and its row index starts with a good record
-  pub index_exactly : (index_test tree block ≡ Accepted) ↔ (TableSound block × Rooted tree block (index_root block))
+  pub index_exactly : (index_test tree block ≡ Ok tt) ↔ (TableSound block × Rooted tree block (index_root block))
   index_exactly = (
     (λ e. let all = sym table_first ∙ e in ((table_exactly block).0 (then_left _ _ all), (root_exactly tree block (index_root block)).0 (then_right _ _ all))),
     (λ h. right_table ((table_exactly block).1 h.0) ∙ (root_exactly tree block (index_root block)).1 h.1),
   )
 
-  pub row_refused : (id : ℕ) (r : Refusal) → index_test tree block ≡ Refused r → row_of tree block id ≡ row.Refused r
+  pub row_refused : (id : ℕ) (r : Refusal) → index_test tree block ≡ Err r → row_of tree block id ≡ Err r
   unfolding row_of
-  row_refused id r e = ends row.Refused _ _ r e
+  row_refused id r e = ends Err _ _ r e
 
-  pub row_on : (id : ℕ) → index_test tree block ≡ Accepted → row_of tree block id ≡ row_from tree (from_root tree block (index_root block) id)
+  pub row_on : (id : ℕ) → index_test tree block ≡ Ok tt → row_of tree block id ≡ row_from tree (from_root tree block (index_root block) id)
   unfolding row_of
-  row_on id e = goes row.Refused _ _ e
+  row_on id e = goes Err _ _ e
 
   -- the row number in the leaf record at a place
-  pub row_at_lem : (place : ℕ) → row.Row (field block (place + tree.key) tree.entry) ≡ row.Row (field (part block place (tree.key + tree.entry)) tree.key tree.entry)
-  row_at_lem place = ap row.Row (sym (field_part block place (tree.key + tree.entry) tree.key tree.entry (omega arith)))
+  pub row_at_lem : (place : ℕ) → Ok (Some (field block (place + tree.key) tree.entry)) ≡ Ok (Some (field (part block place (tree.key + tree.entry)) tree.key tree.entry))
+  row_at_lem place = ap (λ n. Ok (Some n)) (sym (field_part block place (tree.key + tree.entry) tree.key tree.entry (omega arith)))

@@ -2,14 +2,11 @@
 use Prim.Native.Nat.{ℕ}
 use mathlib.Core.Path.{◌≡◌, refl, sym, ap, ◌∙◌}
 use mathlib.Core.Logic.{◌↔◌}
-use mathlib.Core.Option.{Option, none, some}
 use mathlib.Core.List.{List, map, ◌++◌}
 use native.Mathlib.Omega.{arith}
 use Rattle.le.specs.Bytes.{field}
 use Rattle.refusal.specs.declared.Refusal.{Refusal}
-use Rattle.refusal.specs.declared.Verdict.{Verdict}
-use Rattle.refusal.specs.declared.Verdict.TheVariants as verdict
-use Rattle.refusal.specs.Order.{in_order, after, ◌then◌, AllHold, FirstFault}
+use Rattle.refusal.specs.Order.{Verdict, in_order, after, ◌then◌, AllHold, FirstFault}
 use Rattle.refusal.proofs.OrderLaws.{in_order_append, accepted_exactly, refused_exactly}
 use Rattle.keys.specs.Plain.{Missing}
 use Rattle.keys.specs.Search.{with_key}
@@ -23,28 +20,27 @@ use Rattle.heaptree.specs.Scan.{TreeAsScanned}
 use Rattle.heaptree.proofs.ShownLaws.{read_says, case_none, case_some}
 use Rattle.heaptree.proofs.ScanLaws.{scan_holds as tree-holds}
 use Rattle.heaptree.proofs.TriedLaws.{path_tried}
-use Rattle.table.specs.declared.FoundRow.{FoundRow}
-use Rattle.table.specs.declared.FoundRow.TheVariants.{Row, Absent, Refused}
 use Rattle.table.specs.Context.{table_rules}
 use Rattle.table.specs.RowIndex.{row_id, row_from, index_root, index_test, row_rules, row_of, IndexSound, row_records, RowScanHolds}
 use Rattle.table.proofs.IndexLaws.{index_exactly, row_on}
+use Rattle.std.specs.Prelude.{Some, None, Result, Ok, Err, Option}
 
 -- the refusal of an answer, if it is one
-unfoldable pub refusal_in : FoundRow → Verdict
-refusal_in (Row row) = verdict.Accepted
-refusal_in Absent = verdict.Accepted
-refusal_in (Refused r) = verdict.Refused r
+unfoldable pub refusal_in : Result (Option ℕ) Refusal → Verdict
+refusal_in (Ok (Some row)) = Ok tt
+refusal_in (Ok None) = Ok tt
+refusal_in (Err r) = Err r
 
-refusal_is : (f : FoundRow) (r : Refusal) → refusal_in f ≡ verdict.Refused r → f ≡ Refused r
+refusal_is : (f : Result (Option ℕ) Refusal) (r : Refusal) → refusal_in f ≡ Err r → f ≡ Err r
 unfolding refusal_in
-refusal_is (Row row) r e = cc
-refusal_is Absent r e = cc
-refusal_is (Refused s) r e = cc
+refusal_is (Ok (Some row)) r e = cc
+refusal_is (Ok None) r e = cc
+refusal_is (Err s) r e = cc
 
-refusal_after : (v : Verdict) (f : FoundRow) → refusal_in (after Refused v f) ≡ (v then refusal_in f)
+refusal_after : (v : Verdict) (f : Result (Option ℕ) Refusal) → refusal_in (after Err v f) ≡ (v then refusal_in f)
 unfolding refusal_in after
-refusal_after verdict.Accepted f = refl
-refusal_after (verdict.Refused r) f = refl
+refusal_after (Ok tt) f = refl
+refusal_after (Err r) f = refl
 
 module _ (tree : HeapTree) where
   answer_tried : (a : Answer (List ℕ)) → verdict_of a ≡ refusal_in (row_from tree a)
@@ -54,13 +50,13 @@ module _ (tree : HeapTree) where
   answer_tried (refused r) = refl
 
   -- what a leaf record says is never that it is absent
-  abbrev told : List ℕ → FoundRow
-  told entry = Row (field entry tree.key tree.entry)
+  abbrev told : List ℕ → Result (Option ℕ) Refusal
+  told entry = Ok (Some (field entry tree.key tree.entry))
 
-  answer_there : (o : Option (List ℕ)) → row_from tree (answer o 0) ≡ Absent → o ≡ none
-  answer_there none e = refl
-  answer_there (some entry) e =
-      let there = sym (case_some told Absent Refused entry 0) ∙ e in
+  answer_there : (o : Option (List ℕ)) → row_from tree (answer o 0) ≡ Ok None → o ≡ None
+  answer_there None e = refl
+  answer_there (Some entry) e =
+      let there = sym (case_some told (Ok None) Err entry 0) ∙ e in
       let clash : ◌≡◌ {A = ℕ} 0 1 = cc in absurd (omega arith)
 
 module _ (tree : HeapTree) (block : List ℕ) where
@@ -73,14 +69,14 @@ module _ (tree : HeapTree) (block : List ℕ) where
       ∙ sym (refusal_after (in_order before) (row_from tree (from_root tree block (index_root block) id)))
 
   -- answered, or absent, exactly when each rule holds
-  pub row_answered_exactly : (id : ℕ) → (refusal_in (row_of tree block id) ≡ verdict.Accepted) ↔ AllHold (row_rules tree block id)
+  pub row_answered_exactly : (id : ℕ) → (refusal_in (row_of tree block id) ≡ Ok tt) ↔ AllHold (row_rules tree block id)
   row_answered_exactly id = (
     (λ e. (accepted_exactly (row_rules tree block id)).0 (row_tried id ∙ e)),
     (λ h. sym (row_tried id) ∙ (accepted_exactly (row_rules tree block id)).1 h),
   )
 
   -- refused exactly with the first fault
-  pub row_refused_exactly : (id : ℕ) (r : Refusal) → (row_of tree block id ≡ Refused r) ↔ FirstFault (row_rules tree block id) r
+  pub row_refused_exactly : (id : ℕ) (r : Refusal) → (row_of tree block id ≡ Err r) ↔ FirstFault (row_rules tree block id) r
   unfolding refusal_in
   row_refused_exactly id r = (
     (λ e. (refused_exactly (row_rules tree block id) r).0 (row_tried id ∙ ap refusal_in e)),
@@ -96,10 +92,10 @@ module _ (tree : HeapTree) (block : List ℕ) (sound : IndexSound tree block) wh
   scan_answers id =
       row_on tree block id ((index_exactly tree block).1 (sound.table, sound.index.record_fits_lem)) ∙ read_says _ _ _ _ _ (scanned.answers id)
 
-  scan_absent : (id : ℕ) → (row_of tree block id ≡ Absent) ↔ Missing id (map (row_id tree) (row_records tree block))
+  scan_absent : (id : ℕ) → (row_of tree block id ≡ Ok None) ↔ Missing id (map (row_id tree) (row_records tree block))
   scan_absent id = (
     (λ e. (missing_exactly (row_id tree) id (row_records tree block)).0 (answer_there tree (with_key (row_id tree) id (row_records tree block)) (sym (scan_answers id) ∙ e))),
-    (λ m. scan_answers id ∙ ap (λ (o : Option (List ℕ)). row_from tree (answer o 0)) ((missing_exactly (row_id tree) id (row_records tree block)).1 m) ∙ case_none (told tree) Absent Refused 0),
+    (λ m. scan_answers id ∙ ap (λ (o : Option (List ℕ)). row_from tree (answer o 0)) ((missing_exactly (row_id tree) id (row_records tree block)).1 m) ∙ case_none (told tree) (Ok None) Err 0),
   )
 
 -- the theorem: a lookup in a sound row index answers as the plain scan does

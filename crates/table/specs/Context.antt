@@ -1,9 +1,8 @@
 -- Document 02, 5/13: what is tested of a table before what a call is about. Assumes nothing: these are definitions.
 use Rattle.std.specs.Prelude.{ℕ, ◌≡◌, List, [], ◌∷◌, ◌++◌, eqb}
 use Rattle.refusal.specs.declared.Refusal.{Refusal}
-use Rattle.refusal.specs.declared.Verdict.{Verdict}
 use Rattle.refusal.specs.declared.Fault.TheVariants.{TableShape}
-use Rattle.refusal.specs.Order.{◌at◌, Rule, rule, in_order}
+use Rattle.refusal.specs.Order.{Verdict, ◌at◌, Rule, rule, in_order}
 use Rattle.heap.specs.Shape.{client_kind, user_root, shape_rules, Heap}
 use Rattle.heap.specs.Items.{item_fits, Numbered, bad_item, item_part}
 use Rattle.columns.specs.Record.{record_fits}

@@ -1,9 +1,8 @@
 -- Document 02, 5/13: "the row index", of a table of either edition. Assumes nothing: these are definitions.
-use Rattle.std.specs.Prelude.{ℕ, ◌≤◌, ◌≡◌, ◌↔◌, List, ◌++◌, map}
+use Rattle.std.specs.Prelude.{ℕ, ◌≤◌, ◌≡◌, ◌↔◌, List, ◌++◌, map, Option, Some, None, Result, Ok, Err}
 use Rattle.le.specs.Bytes.{field}
-use Rattle.refusal.specs.declared.Verdict.{Verdict}
 use Rattle.refusal.specs.declared.Fault.TheVariants.{TableShape}
-use Rattle.refusal.specs.Order.{Rule, in_order, after}
+use Rattle.refusal.specs.Order.{Verdict, Rule, in_order, after}
 use Rattle.keys.specs.Plain.{Ascending, Missing}
 use Rattle.keys.specs.Search.{with_key}
 use Rattle.search.specs.Answer.{Answer, answer}
@@ -14,9 +13,8 @@ use Rattle.heaptree.specs.Lookup.{from_root, path_rules, by_case}
 use Rattle.heaptree.specs.Sound.{HeapTreeSound}
 use Rattle.heaptree.specs.Scan.{leaf_records}
 use Rattle.columns.specs.Record.{row_index_item}
-use Rattle.table.specs.declared.FoundRow.{FoundRow}
-use Rattle.table.specs.declared.FoundRow.TheVariants.{Row, Absent, Refused}
 use Rattle.table.specs.Context.{table_record, table_rules, TableSound}
+use Rattle.refusal.specs.declared.Refusal.{Refusal}
 
 -- "Row index tree: B5, key 4, entry .., levels 0 to 3; wrong shapes 23, wrong item numbers 19"
 abbrev pub row_index_of : ℕ → HeapTree
@@ -38,8 +36,8 @@ module _ (tree : HeapTree) where
   abbrev pub row_id : List ℕ → ℕ
   row_id entry = record_key tree entry
 
-  abbrev pub row_from : Answer (List ℕ) → FoundRow
-  row_from answer = by_case (λ entry. Row (field entry tree.key tree.entry)) Absent Refused answer
+  abbrev pub row_from : Answer (List ℕ) → Result (Option ℕ) Refusal
+  row_from answer = by_case (λ entry. Ok (Some (field entry tree.key tree.entry))) (Ok None) Err answer
 
 -- the item from which it starts
 abbrev pub index_root : List ℕ → ℕ
@@ -55,8 +53,8 @@ module _ (tree : HeapTree) (block : List ℕ) where
   row_rules id = (table_rules block ++ root_rules tree block (index_root block)) ++ path_rules tree block (index_root block) id
 
   -- "root 0 absent"
-  unfoldable pub row_of : ℕ → FoundRow
-  row_of id = after Refused index_test (row_from tree (from_root tree block (index_root block) id))
+  unfoldable pub row_of : ℕ → Result (Option ℕ) Refusal
+  row_of id = after Err index_test (row_from tree (from_root tree block (index_root block) id))
 
   -- a table whose whole row index is sound
   pub record IndexSound : Type 0 where
@@ -74,7 +72,7 @@ module _ (tree : HeapTree) (block : List ℕ) where
     -- that is the only one with the id, since the ids of the leaf records strictly ascend
     pub ascending : Ascending (map (row_id tree) row_records)
     -- absent exactly when no leaf record has the id
-    pub absent_iff : (id : ℕ) → (row_of id ≡ Absent) ↔ Missing id (map (row_id tree) row_records)
+    pub absent_iff : (id : ℕ) → (row_of id ≡ Ok None) ↔ Missing id (map (row_id tree) row_records)
 
 -- a table whose whole row index is sound, whatever its sizes, is answered as by the plain scan
 abbrev pub RowScanHolds : Type 0

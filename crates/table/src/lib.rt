@@ -31,26 +31,6 @@ pub struct Table {
     pub rows: Named,
 }
 
-#[derive(Clone, Copy)]
-pub enum TableAnswer {
-    Says(Table),
-    Refused(Refusal),
-}
-
-#[derive(Clone, Copy)]
-pub enum ColumnAnswer {
-    Found(Column),
-    Absent,
-    Refused(Refusal),
-}
-
-#[derive(Clone, Copy)]
-pub enum FoundRow {
-    Row(u32),
-    Absent,
-    Refused(Refusal),
-}
-
 // 23 for the heap's client kind, 19 for the user root's number, then 23 for the record and for the columns.
 fn check_context(block: &[u8]) -> Verdict
     requires { Heap block.now }
@@ -70,7 +50,7 @@ fn check_context(block: &[u8]) -> Verdict
     if !apart::columns_fit(table) {
         return refusal::refused_at(Fault::TableShape, 0);
     }
-    Verdict::Accepted
+    Ok(())
 }
 
 // All that is tested before what a call is about: 18, then the table's own rules.
@@ -78,7 +58,7 @@ pub fn test_table(block: &[u8]) -> Verdict
     ensures { result ≡ table_test block.now }
 {
     let shape = heap::test_heap(block);
-    let Verdict::Accepted = shape else {
+    let Ok(()) = shape else {
         return shape;
     };
     check_context(block)
@@ -122,36 +102,36 @@ fn table_in(block: &[u8]) -> Table
 }
 
 // What a table says, of a block that need not hold one.
-pub fn table_of(block: &[u8]) -> TableAnswer
+pub fn table_of(block: &[u8]) -> Result<Table, Refusal>
     ensures { result ≡ table_of block.now }
 {
     let verdict = test_table(block);
     match verdict {
-        Verdict::Refused(refusal) => TableAnswer::Refused(refusal),
-        Verdict::Accepted => TableAnswer::Says(table_in(block)),
+        Err(refusal) => Err(refusal),
+        Ok(()) => Ok(table_in(block)),
     }
 }
 
-fn column_in(block: &[u8], index: u32) -> ColumnAnswer
+fn column_in(block: &[u8], index: u32) -> Result<Option<Column>, Refusal>
     requires { TableSound block.now }
     ensures { result ≡ column_in (table_record block.now) index }
 {
     let table = record_of(block);
     let i = index as usize;
     if columns::column_count(table) < i + 1 {
-        return ColumnAnswer::Absent;
+        return Ok(None);
     }
-    ColumnAnswer::Found(columns::column_at(table, i))
+    Ok(Some(columns::column_at(table, i)))
 }
 
 // A column by its index, in stored order.
-pub fn column_of(block: &[u8], index: u32) -> ColumnAnswer
+pub fn column_of(block: &[u8], index: u32) -> Result<Option<Column>, Refusal>
     ensures { result ≡ column_of block.now index }
 {
     let verdict = test_table(block);
     match verdict {
-        Verdict::Refused(refusal) => ColumnAnswer::Refused(refusal),
-        Verdict::Accepted => column_in(block, index),
+        Err(refusal) => Err(refusal),
+        Ok(()) => column_in(block, index),
     }
 }
 
@@ -171,14 +151,14 @@ fn test_index(block: &[u8], tree: HeapTree) -> Verdict
     ensures { result ≡ index_test tree block.now }
 {
     let verdict = test_table(block);
-    let Verdict::Accepted = verdict else {
+    let Ok(()) = verdict else {
         return verdict;
     };
     let root = columns::row_index_item(record_of(block));
     heaptree::check_root(block, tree, root)
 }
 
-fn find_in_index(block: &[u8], tree: HeapTree, id: u32) -> FoundRow
+fn find_in_index(block: &[u8], tree: HeapTree, id: u32) -> Result<Option<u32>, Refusal>
     requires { TableSound block.now × FairIndex tree × Rooted tree block.now (index_root block.now) }
     ensures { result ≡ row_from tree (from_root tree block.now (index_root block.now) id) }
 {
@@ -187,33 +167,33 @@ fn find_in_index(block: &[u8], tree: HeapTree, id: u32) -> FoundRow
     let entry = tree.entry;
     let found = heaptree::find_from(block, tree, root, id as u64);
     match found {
-        FoundRecord::At(place) => FoundRow::Row(le::field_of(block, place + key, entry) as u32),
-        FoundRecord::Absent => FoundRow::Absent,
-        FoundRecord::Refused(refusal) => FoundRow::Refused(refusal),
+        Ok(Some(place)) => Ok(Some(le::field_of(block, place + key, entry) as u32)),
+        Ok(None) => Ok(None),
+        Err(refusal) => Err(refusal),
     }
 }
 
 // The number of the row with the id, by this row index.
-fn find_row_in(block: &[u8], tree: HeapTree, id: u32) -> FoundRow
+fn find_row_in(block: &[u8], tree: HeapTree, id: u32) -> Result<Option<u32>, Refusal>
     requires { FairIndex tree }
     ensures { result ≡ row_of tree block.now id }
 {
     let verdict = test_index(block, tree);
     match verdict {
-        Verdict::Refused(refusal) => FoundRow::Refused(refusal),
-        Verdict::Accepted => find_in_index(block, tree, id),
+        Err(refusal) => Err(refusal),
+        Ok(()) => find_in_index(block, tree, id),
     }
 }
 
 // The number of the row with the id, by the row index.
-pub fn find_row(block: &[u8], id: u32) -> FoundRow
+pub fn find_row(block: &[u8], id: u32) -> Result<Option<u32>, Refusal>
     ensures { result ≡ row_of row_index block.now id }
 {
     find_row_in(block, row_index(4), id)
 }
 
 // The same of a 32-bit file's table.
-pub fn find_row32(block: &[u8], id: u32) -> FoundRow
+pub fn find_row32(block: &[u8], id: u32) -> Result<Option<u32>, Refusal>
     ensures { result ≡ row_of row_index32 block.now id }
 {
     find_row_in(block, row_index(2), id)

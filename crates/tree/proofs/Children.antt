@@ -2,7 +2,6 @@
 use Prim.Native.Nat.{ℕ, ◌+◌, ◌*◌, ◌≤◌, ◌<◌}
 use mathlib.Core.Path.{◌≡◌, refl, sym, ap, ◌∙◌}
 use mathlib.Core.Bool.{Bool, true, false}
-use mathlib.Core.Option.{none, some}
 use mathlib.Core.List.{List, ◌∷◌, map}
 use native.Mathlib.Omega.{arith}
 use lib.Dec.{leb}
@@ -11,8 +10,6 @@ use borrow.Author.Tests.{leb-true, leb-false}
 use Rattle.le.specs.Bytes.{part, field}
 use Rattle.keys.specs.declared.Range.{Range}
 use Rattle.keys.specs.declared.Shape.{Shape}
-use Rattle.keys.specs.declared.End.{End}
-use Rattle.keys.specs.declared.Seat.TheVariants.{At, Nowhere}
 use Rattle.keys.specs.declared.Sought.{Sought}
 use Rattle.keys.specs.declared.Sought.TheVariants.{AtLeast}
 use Rattle.keys.specs.Records.{key_of, keys_of, records, record_at, RecordsIn, records_from}
@@ -33,12 +30,12 @@ use Rattle.page.specs.Layout.{shape}
 use Rattle.edition.specs.Fair.{FairLayout}
 use Rattle.page.specs.Page.{page, count_of, level_of, entries, key_in, counts_fit}
 use Rattle.page.proofs.PageLaws.{entries_are, keys_of_entries, entry_keyed, shape_size, shape_width, shape_reserved, leaf_size, entries_held, words_inside, few}
-use Rattle.tree.specs.declared.Next.TheVariants.{Here, NoMore}
 use Rattle.tree.specs.Tree.{link_of, page_tree}
 use Rattle.tree.specs.Answers.{kids_from, chosen_of, next_of}
+use Rattle.std.specs.Prelude.{Option, Some, None}
 
 -- the child of the i-th entry, by the numbers read
-pub link_is : (L : Layout) (s : Shape) (n : ℕ) (g : List ℕ) (to : End) (i level number offset : ℕ) (range : Range) → L.word * 3 ≤ s.size → s.width ≡ L.key → s.reserved ≡ L.reserved
+pub link_is : (L : Layout) (s : Shape) (n : ℕ) (g : List ℕ) (to : Option ℕ) (i level number offset : ℕ) (range : Range) → L.word * 3 ≤ s.size → s.width ≡ L.key → s.reserved ≡ L.reserved
     → number ≡ field g (i * s.size + L.word) L.word → offset ≡ field g (i * s.size + L.word + L.word) L.word → range ≡ range_at s n g i to
     → ◌≡◌ {A = Link} (record { number = number; offset = offset; level = Exactly level; range = range }) (child_at (key_in L) (link_of L level) to s n g i)
 unfolding link_of
@@ -77,7 +74,7 @@ module _ (L : Layout) (g : List ℕ) where
   pub entries_length : length (entries L g) ≡ count_of L g
   entries_length = ap length (entries_are L g) ∙ records_length own (count_of L g) g
 
-  module _ (l : ℕ) (to : End) where
+  module _ (l : ℕ) (to : Option ℕ) where
     abbrev from : ℕ → List Link
     from i = children_from (key_in L) (link_of L l) to own (count_of L g) g i
 
@@ -87,16 +84,16 @@ module _ (L : Layout) (g : List ℕ) where
     from_at : (i : ℕ) → i < count_of L g → from i ≡ at i ∷ from (i + 1)
     from_at i h = children_at (key_in L) own keyed (count_of L g) g to (link_of L l) i h
 
-    pub next_none : (i : ℕ) → count_of L g ≤ i → NoMore ≡ next_of (from i)
+    pub next_none : (i : ℕ) → count_of L g ≤ i → None ≡ next_of (from i)
     unfolding next_of
     next_none i h = rw (children_none (key_in L) own keyed (count_of L g) g to (link_of L l) i h)
 
-    pub next_some : (i : ℕ) → i < count_of L g → Here (at i) ≡ next_of (from i)
+    pub next_some : (i : ℕ) → i < count_of L g → Some (at i) ≡ next_of (from i)
     unfolding next_of
     next_some i h = rw (from_at i h)
 
     -- the children from the i-th on: one and the rest
-    pub more_from : (i : ℕ) (c : Link) → next_of (from i) ≡ Here c → (i < count_of L g) × (from i ≡ c ∷ from (i + 1))
+    pub more_from : (i : ℕ) (c : Link) → next_of (from i) ≡ Some c → (i < count_of L g) × (from i ≡ c ∷ from (i + 1))
     unfolding next_of
     more_from i c e = by (leb (count_of L g) i) refl
       where
@@ -108,26 +105,26 @@ module _ (L : Layout) (g : List ℕ) where
 
     -- the chosen child
     module _ (k : ℕ) where
-      pub choose_none : last_at_most k (keys_of own (count_of L g) g) ≡ Nowhere → NoMore ≡ next_of (chosen_of L l to k g)
+      pub choose_none : last_at_most k (keys_of own (count_of L g) g) ≡ None → None ≡ next_of (chosen_of L l to k g)
       unfolding chosen_of next_of
       choose_none e = rw (entries_are L g) (sym (ap next_of (chosen_none (key_in L) own keyed (count_of L g) g to (link_of L l) (λ (c : Link). c.range) (ranged L l) k (sym e))))
 
-      pub choose_some : (i : ℕ) → last_at_most k (keys_of own (count_of L g) g) ≡ At i → Here (at i) ≡ next_of (chosen_of L l to k g)
+      pub choose_some : (i : ℕ) → last_at_most k (keys_of own (count_of L g) g) ≡ Some i → Some (at i) ≡ next_of (chosen_of L l to k g)
       unfolding chosen_of next_of
       choose_some i e = rw (entries_are L g) (sym (ap next_of (chosen_some (key_in L) own keyed (count_of L g) g to (link_of L l) (λ (c : Link). c.range) (ranged L l) k i (sym e))))
 
-      pub choose_inside : (i : ℕ) → last_at_most k (keys_of own (count_of L g) g) ≡ At i → i < count_of L g
+      pub choose_inside : (i : ℕ) → last_at_most k (keys_of own (count_of L g) g) ≡ Some i → i < count_of L g
       choose_inside i e = chosen_inside own (count_of L g) g k i (sym e)
 
   -- the entry that is sought
   module _ (s : Sought) (k : ℕ) where
-    pub seen_none : first_that s k (keys_of own (count_of L g) g) ≡ Nowhere → scanned s (key_in L) k (entries L g) ≡ none
+    pub seen_none : first_that s k (keys_of own (count_of L g) g) ≡ None → scanned s (key_in L) k (entries L g) ≡ None
     seen_none e = ap (scanned s (key_in L) k) (entries_are L g) ∙ entry_none (key_in L) own keyed (count_of L g) g s k (sym e)
 
-    pub seen_inside : (i : ℕ) → first_that s k (keys_of own (count_of L g) g) ≡ At i → i < count_of L g
+    pub seen_inside : (i : ℕ) → first_that s k (keys_of own (count_of L g) g) ≡ Some i → i < count_of L g
     seen_inside i e = found_inside own (count_of L g) g s k i (sym e)
 
-    pub seen_some : (i : ℕ) → first_that s k (keys_of own (count_of L g) g) ≡ At i → scanned s (key_in L) k (entries L g) ≡ some (record_at own g i)
+    pub seen_some : (i : ℕ) → first_that s k (keys_of own (count_of L g) g) ≡ Some i → scanned s (key_in L) k (entries L g) ≡ Some (record_at own g i)
     seen_some i e = ap (scanned s (key_in L) k) (entries_are L g) ∙ entry_some (key_in L) own keyed (count_of L g) g s k i (sym e)
 
   -- where a listing starts
@@ -143,11 +140,11 @@ module _ (L : Layout) (image : List ℕ) (l : ℕ) (p : Link) where
   abbrev g : List ℕ
   g = page image p.offset
 
-  pub more : (i : ℕ) (c : Link) → next_of (kids_from L image l p i) ≡ Here c → (i < count_of L g) × (kids_from L image l p i ≡ c ∷ kids_from L image l p (i + 1))
+  pub more : (i : ℕ) (c : Link) → next_of (kids_from L image l p i) ≡ Some c → (i < count_of L g) × (kids_from L image l p i ≡ c ∷ kids_from L image l p (i + 1))
   unfolding kids_from
   more i c e = more_from L g l p.range.to i c e
 
-  pub no_more : (i : ℕ) → count_of L g ≤ i → next_of (kids_from L image l p i) ≡ NoMore
+  pub no_more : (i : ℕ) → count_of L g ≤ i → next_of (kids_from L image l p i) ≡ None
   unfolding kids_from
   no_more i h = sym (next_none L g l p.range.to i h)
 

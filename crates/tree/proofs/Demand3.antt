@@ -4,7 +4,6 @@ use mathlib.Core.Path.{◌≡◌, refl, sym, ap, ◌∙◌}
 use mathlib.Core.Logic.{◌↔◌}
 use mathlib.Core.List.{List, map}
 use lib.ListN.{length, length-map}
-use Rattle.refusal.specs.declared.Verdict.TheVariants.{Accepted}
 use Rattle.refusal.specs.Order.{◌then◌}
 use Rattle.refusal.proofs.OrderLaws.{goes, then_left, then_right}
 use Rattle.keys.specs.Plain.{Missing}
@@ -25,12 +24,13 @@ use Rattle.tree.specs.Lookup.{asked_for, searched, lookup, path}
 use Rattle.tree.specs.Demand3.{Demand3, Demand3Holds}
 use Rattle.tree.proofs.Walk.{tree_parts}
 use Rattle.tree.proofs.Searched.{sorted, filled, placed}
+use Rattle.std.specs.Prelude.{Ok}
 
-module _ (L : Layout) (image : List ℕ) (ok : tree_fits L image ≡ Accepted) where
-  both : (header_fits image then check_under (page_tree L image) (root_level L image) (root L image)) ≡ Accepted
+module _ (L : Layout) (image : List ℕ) (ok : tree_fits L image ≡ Ok tt) where
+  both : (header_fits image then check_under (page_tree L image) (root_level L image) (root L image)) ≡ Ok tt
   both = sym (tree_parts L image) ∙ ok
 
-  pub tree : check_under (page_tree L image) (root_level L image) (root L image) ≡ Accepted
+  pub tree : check_under (page_tree L image) (root_level L image) (root L image) ≡ Ok tt
   tree = then_right (header_fits image) _ both
 
   pub from_root_lem : (s : Sought) (key : ℕ) → searched s L image key ≡ descend (page_tree L image) s (asked_for s L key) (root_level L image) (root L image)

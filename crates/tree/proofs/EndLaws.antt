@@ -3,9 +3,7 @@ use Prim.Native.Nat.{ℕ}
 use mathlib.Core.Path.{◌≡◌, refl, sym, ap, ap₂, ◌∙◌}
 use mathlib.Core.List.{List}
 use Rattle.refusal.specs.declared.Refusal.{Refusal}
-use Rattle.refusal.specs.declared.Verdict.{Verdict}
-use Rattle.refusal.specs.declared.Verdict.TheVariants.{Accepted, Refused}
-use Rattle.refusal.specs.Order.{after, ◌then◌, FirstFault}
+use Rattle.refusal.specs.Order.{Verdict, after, ◌then◌, FirstFault}
 use Rattle.refusal.proofs.OrderLaws.{fault_left}
 use Rattle.keys.specs.declared.Sought.{Sought}
 use Rattle.keys.specs.declared.Sought.TheVariants.{Equal, AtLeast}
@@ -29,6 +27,7 @@ use Rattle.tree.specs.Lookup.{asked_for, searched, search_rules}
 use Rattle.tree.specs.Answers.{shown, as_node, node_of, as_block, block_of, next_node_of, next_block_of}
 use Rattle.tree.proofs.Walk.{test_is, tree_parts}
 use Rattle.tree.proofs.OffPath.{Alike, root_same}
+use Rattle.std.specs.Prelude.{Ok, Err}
 
 module _ (L : Layout) (one other : List ℕ) (alike : AlikeToEnd one other) where
   all_alike : (p : Link) → Alike L one other p
@@ -40,18 +39,18 @@ module _ (L : Layout) (one other : List ℕ) (alike : AlikeToEnd one other) wher
 
   -- from a page that is accepted, or else refused at whatever level it stands
   from_page : {A : Type 0} (go : List ℕ → ℕ → Link → A) → ((l : ℕ) (p : Link) → go one l p ≡ go other l p)
-      → ((l m : ℕ) (p : Link) (r : Refusal) → page_fits L other p ≡ Refused r → go other l p ≡ go other m p) → (p : Link)
+      → ((l m : ℕ) (p : Link) (r : Refusal) → page_fits L other p ≡ Err r → go other l p ≡ go other m p) → (p : Link)
       → go one (level_of L (page one p.offset)) p ≡ go other (level_of L (page other p.offset)) p
   from_page go same ended p = same (level_of L (page one p.offset)) p ∙ by (page_fits L one p) refl
     where
       by : (v : Verdict) → page_fits L one p ≡ v → go other (level_of L (page one p.offset)) p ≡ go other (level_of L (page other p.offset)) p
-      by Accepted t = ap (λ (g : List ℕ). go other (level_of L g) p) (page_same L one other alike p t)
-      by (Refused r) t = ended _ _ p r (sym (page_alike L one other alike p) ∙ t)
+      by (Ok tt) t = ap (λ (g : List ℕ). go other (level_of L g) p) (page_same L one other alike p t)
+      by (Err r) t = ended _ _ p r (sym (page_alike L one other alike p) ∙ t)
 
   module _ (fair : FairLayout L) where
     -- from the root page on
     from_root_lem : {A : Type 0} (go : List ℕ → ℕ → Link → A) → ((l : ℕ) (p : Link) → go one l p ≡ go other l p)
-        → ((l m : ℕ) (p : Link) (r : Refusal) → page_fits L other p ≡ Refused r → go other l p ≡ go other m p)
+        → ((l m : ℕ) (p : Link) (r : Refusal) → page_fits L other p ≡ Err r → go other l p ≡ go other m p)
         → go one (root_level L one) (root L one) ≡ go other (root_level L other) (root L other)
     unfolding root_level
     from_root_lem go same ended =
@@ -67,7 +66,7 @@ module _ (L : Layout) (one other : List ℕ) (alike : AlikeToEnd one other) wher
         (λ l p. entries L (page one p.offset)) (λ l p. entries L (page other p.offset)) s (asked_for s L key) all_alike)
         (λ l m p r t. ended l p r t ∙ sym (ended m p r t)))
       where
-        ended : (l : ℕ) (p : Link) (r : Refusal) → page_fits L other p ≡ Refused r → descend (page_tree L other) s (asked_for s L key) l p ≡ refused r
+        ended : (l : ℕ) (p : Link) (r : Refusal) → page_fits L other p ≡ Err r → descend (page_tree L other) s (asked_for s L key) l p ≡ refused r
         ended l p r t = step_refused (page_tree L other) s (asked_for s L key) p (page_fits L other p) l r (sym (test_is L other l p)) t
 
     pub check_alike : tree_fits L one ≡ tree_fits L other
@@ -80,7 +79,7 @@ module _ (L : Layout) (one other : List ℕ) (alike : AlikeToEnd one other) wher
         (λ l m p r t. ended l p r t ∙ sym (ended m p r t)))
         ∙ sym (tree_parts L other)
       where
-        ended : (l : ℕ) (p : Link) (r : Refusal) → page_fits L other p ≡ Refused r → check_under (page_tree L other) l p ≡ Refused r
+        ended : (l : ℕ) (p : Link) (r : Refusal) → page_fits L other p ≡ Err r → check_under (page_tree L other) l p ≡ Err r
         ended l p r t = under_refused (page_tree L other) l p r (test_is L other l p ∙ t)
 
 -- what lookups and listings hand out

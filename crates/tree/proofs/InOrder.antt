@@ -3,9 +3,7 @@ use Prim.Native.Nat.{ℕ}
 use mathlib.Core.Path.{◌≡◌, sym, subst}
 use mathlib.Core.List.{List, [], map}
 use lib.ListN.{length, length-map}
-use Rattle.refusal.specs.declared.Verdict.{Verdict}
-use Rattle.refusal.specs.declared.Verdict.TheVariants.{Accepted, Refused}
-use Rattle.refusal.specs.Order.{in_order, after}
+use Rattle.refusal.specs.Order.{Verdict, in_order, after}
 use Rattle.keys.specs.declared.Sought.{Sought}
 use Rattle.search.specs.Answer.{Answer, refused}
 use Rattle.search.specs.Descent.{descend, reads, path_under}
@@ -19,6 +17,7 @@ use Rattle.page.specs.Layout.{compared}
 use Rattle.tree.specs.Tree.{root, root_level, page_tree}
 use Rattle.tree.specs.Lookup.{asked_for, searched, path, search_rules, pages_read}
 use Rattle.tree.specs.Demand3.{PathCountedHolds, ReadInOrderHolds}
+use Rattle.std.specs.Prelude.{Ok, Err}
 
 same_count : (ps : List Link) (a : Answer (List ℕ)) → Counts (length ps) a → Counts (length (map (λ p. p.offset) ps)) a
 same_count ps a h = subst (λ (n : ℕ). Counts n a) (sym (length-map ps (λ p. p.offset))) h
@@ -51,5 +50,5 @@ in_order_lem s L image key =
 
     by : (v : Verdict) → Counts (length read) (descend (page_tree L image) s (asked_for s L key) (root_level L image) (root L image))
         → Counts (length (after (λ r. []) v (map (λ p. p.offset) read))) (after refused v (descend (page_tree L image) s (asked_for s L key) (root_level L image) (root L image)))
-    by Accepted h = same_count read (descend (page_tree L image) s (asked_for s L key) (root_level L image) (root L image)) h
-    by (Refused r) h = tt
+    by (Ok tt) h = same_count read (descend (page_tree L image) s (asked_for s L key) (root_level L image) (root L image)) h
+    by (Err r) h = tt

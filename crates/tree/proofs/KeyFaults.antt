@@ -9,7 +9,6 @@ use lib.Dec.{eqb}
 use Rattle.laws.proofs.Tests.{not_both}
 use Rattle.refusal.specs.declared.Fault.TheVariants.{KeyOrder, KeyRange}
 use Rattle.refusal.specs.declared.Refusal.{Refusal}
-use Rattle.refusal.specs.declared.Verdict.TheVariants.{Refused}
 use Rattle.refusal.specs.Number.{number}
 use Rattle.refusal.specs.Order.{at_entry, Rule, FirstFault}
 use Rattle.refusal.proofs.OrderLaws.{append_fault, Each, fault_among}
@@ -24,6 +23,7 @@ use Rattle.page.proofs.KeyFaults.{key_faults}
 use Rattle.tree.specs.Tree.{root, root_level, page_tree, tree_rules}
 use Rattle.tree.specs.Lookup.{asked_for, search_rules}
 use Rattle.tree.specs.KeyFaults.{OfKeys, KeyFault, order, range}
+use Rattle.std.specs.Prelude.{Err}
 
 -- rules that have no refusal 11 or 21
 abbrev pub keyed : ℕ → Bool
@@ -78,10 +78,10 @@ module _ (L : Layout) (image : List ℕ) where
       ⊎_elim
       (λ (e : r.fault ≡ KeyOrder).
       let form = told.eleven_form r refused e in
-      subst (KeyFault L image) (sym form) (order h.reached ((told.eleven r.more).0 (refused ∙ ap Refused form))))
+      subst (KeyFault L image) (sym form) (order h.reached ((told.eleven r.more).0 (refused ∙ ap Err form))))
       (λ (e : r.fault ≡ KeyRange).
       let form = told.twenty_one_form r refused e in
-      subst (KeyFault L image) (sym form) (range h.reached ((told.twenty_one r.more).0 (refused ∙ ap Refused form))))
+      subst (KeyFault L image) (sym form) (range h.reached ((told.twenty_one r.more).0 (refused ∙ ap Err form))))
       k
 
   pub tree_tells : KeysTell (KeyFault L image) (tree_rules L image)
@@ -95,6 +95,6 @@ module _ (L : Layout) (image : List ℕ) where
       (λ r f k. page_tells r (search_fault (page_tree L image) (root_level L image) (root L image) s (asked_for s L key) r f) k)
 
 -- "The root's range is everything": a root is never refused with 21
-pub root_never : (L : Layout) (image : List ℕ) (i : ℕ) → page_fits L image (root L image) ≡ Refused (at_entry KeyRange (root L image).offset i) → ⊥
+pub root_never : (L : Layout) (image : List ℕ) (i : ℕ) → page_fits L image (root L image) ≡ Err (at_entry KeyRange (root L image).offset i) → ⊥
 unfolding root
 root_never L image i e = (((key_faults L image (root L image)).twenty_one i).0 e).1.outside (omega arith, tt)

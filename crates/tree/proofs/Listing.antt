@@ -5,9 +5,7 @@ use mathlib.Core.List.{List, [], map}
 use native.Mathlib.Nat.{le_trans, pow-le-pow_right, zero-lt-suc}
 use lib.ListN.{length, length-map}
 use Rattle.le.specs.Bytes.{Bytes}
-use Rattle.refusal.specs.declared.Verdict.{Verdict}
-use Rattle.refusal.specs.declared.Verdict.TheVariants.{Accepted, Refused}
-use Rattle.refusal.specs.Order.{after}
+use Rattle.refusal.specs.Order.{Verdict, after}
 use Rattle.keys.specs.declared.Sought.TheVariants.{AtLeast}
 use Rattle.keys.specs.Plain.{All}
 use Rattle.keys.specs.Search.{from_key}
@@ -29,6 +27,7 @@ use Rattle.tree.specs.Lookup.{next, pages_read}
 use Rattle.tree.specs.Listing.{ListingHolds, FewPagesHolds, ListsHolds}
 use Rattle.tree.proofs.Searched.{sorted, filled}
 use Rattle.tree.proofs.Demand3.{tree, from_root_lem, scans}
+use Rattle.std.specs.Prelude.{Ok, Err}
 
 pub listing : ListingHolds
 unfolding scan
@@ -50,8 +49,8 @@ few_pages_read L image from = by (header_fits image)
     read = reads (page_tree L image) AtLeast (as_given L from) (root_level L image) (root L image)
 
     by : (v : Verdict) → length (after (λ r. []) v (map (λ p. p.offset) read)) ≤ 2 * root_level L image + 1
-    by Accepted = rw (length-map read (λ p. p.offset)) (few (page_tree L image) (sorted L image) (filled L image) (as_given L from) (root_level L image) (root L image)).few
-    by (Refused r) = zero-le
+    by (Ok tt) = rw (length-map read (λ p. p.offset)) (few (page_tree L image) (sorted L image) (filled L image) (as_given L from) (root_level L image) (root L image)).few
+    by (Err r) = zero-le
 
 -- the numbers of entries made of bytes
 module _ (L : Layout) where
@@ -63,7 +62,7 @@ module _ (L : Layout) where
     unfolding scan
     scan_short = all_leaves (page_tree L image) Short (λ l p. entries_short L image h p.offset) (root_level L image) (root L image)
 
-  module _ (image : List ℕ) (ok : tree_fits L image ≡ Accepted) where
+  module _ (image : List ℕ) (ok : tree_fits L image ≡ Ok tt) where
     here : (k : ℕ) → k < 256 ^ L.sought → Says (next L image k) (from_key (key_in L) k (scan L image))
     here k h =
         let s = (listing L image ok).answers k in

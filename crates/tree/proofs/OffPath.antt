@@ -4,9 +4,7 @@ use mathlib.Core.Path.{◌≡◌, refl, ap, ◌∙◌}
 use mathlib.Core.List.{List, [], ◌∷◌, map}
 use native.Mathlib.Omega.{arith}
 use Rattle.le.specs.Bytes.{part}
-use Rattle.refusal.specs.declared.Verdict.{Verdict}
-use Rattle.refusal.specs.declared.Verdict.TheVariants.{Accepted, Refused}
-use Rattle.refusal.specs.Order.{in_order, after}
+use Rattle.refusal.specs.Order.{Verdict, in_order, after}
 use Rattle.keys.specs.declared.Sought.{Sought}
 use Rattle.keys.specs.declared.Sought.TheVariants.{Equal}
 use Rattle.keys.specs.Plain.{All}
@@ -24,6 +22,7 @@ use Rattle.page.proofs.PageLaws.{rules_agree}
 use Rattle.tree.specs.Tree.{root, root_level, link_of, page_tree}
 use Rattle.tree.specs.Lookup.{asked_for, searched, path, pages_read}
 use Rattle.tree.specs.Demand3.{OffPathHolds, OffReadHolds}
+use Rattle.std.specs.Prelude.{Ok, Err}
 
 pub root_same : (L : Layout) (one other : List ℕ) → FairLayout L → part one 0 564 ≡ part other 0 564 → root L one ≡ root L other
 unfolding root
@@ -74,8 +73,8 @@ off_read s L key one other fair same =
         ∙ ap (λ (p : Link). descend (page_tree L other) s (asked_for s L key) (level_of L (page other p.offset)) p) (root_same L one other fair same.same_header)
 
     by : (v : Verdict) → All (λ offset. page one offset ≡ page other offset) (after (λ r. []) v (map (λ p. p.offset) read)) → after refused v (go one) ≡ after refused v (go other)
-    by Accepted a = below a
-    by (Refused r) a = refl
+    by (Ok tt) a = below a
+    by (Err r) a = refl
 
 -- what a lookup reads lies on the path
 all_offsets : (P : ℕ → Type 0) (ps : List Link) → All (λ p. P p.offset) ps → All P (map (λ p. p.offset) ps)
@@ -97,8 +96,8 @@ read_on_path L image key P a = by (header_fits image)
     on_path = offsets_all P (path_under (page_tree L image) (compared L key) (root_level L image) (root L image)) a
 
     by : (v : Verdict) → All P (after (λ r. []) v (map (λ p. p.offset) read))
-    by Accepted = all_offsets P read (reads_on_path (page_tree L image) (compared L key) (λ p. P p.offset) (root_level L image) (root L image) on_path)
-    by (Refused r) = tt
+    by (Ok tt) = all_offsets P read (reads_on_path (page_tree L image) (compared L key) (λ p. P p.offset) (root_level L image) (root L image) on_path)
+    by (Err r) = tt
 
 pub off_path : OffPathHolds
 off_path L key one other fair same =

@@ -2,12 +2,9 @@
 use Prim.Native.Nat.{ℕ, ◌+◌, ◌-◌}
 use mathlib.Core.Path.{◌≡◌, refl, sym, ap, ◌∙◌, subst}
 use mathlib.Core.Bool.{Bool, true, false}
-use mathlib.Core.Option.{Option, none, some}
 use mathlib.Core.List.{List, [], ◌∷◌}
 use native.Mathlib.Omega.{arith}
 use Rattle.refusal.specs.declared.Refusal.{Refusal}
-use Rattle.refusal.specs.declared.Verdict.{Verdict}
-use Rattle.refusal.specs.declared.Verdict.TheVariants.{Accepted, Refused}
 use Rattle.refusal.proofs.OrderLaws.{goes, ends}
 use Rattle.keys.specs.declared.Sought.{Sought}
 use Rattle.keys.specs.declared.Sought.TheVariants.{Equal}
@@ -25,36 +22,36 @@ use Rattle.page.specs.declared.Link.{Link}
 use Rattle.page.specs.Layout.{compared}
 use Rattle.page.specs.Page.{page, level_of, entries, key_in, offset_fits, page_fits}
 use Rattle.page.proofs.PageLaws.{page_ends}
-use Rattle.tree.specs.declared.Next.TheVariants.{Here, NoMore}
-use Rattle.tree.specs.declared.Found.TheVariants.{Entry, Absent, Refused as Turned}
 use Rattle.tree.specs.declared.Node.{Node}
-use Rattle.tree.specs.declared.FoundNode.TheVariants as node
 use Rattle.tree.specs.Tree.{root, root_level, page_tree}
 use Rattle.tree.specs.Lookup.{asked_for, searched}
 use Rattle.tree.specs.Answers.{fields_of, shown, as_node, node_of, next_of}
 use Rattle.tree.proofs.Walk.{accepted_level, test_is, born_level}
+use Rattle.std.specs.Prelude.{Some, None, Ok, Err, Option}
+use Rattle.refusal.specs.Order.{Verdict}
+use Rattle.tree.specs.declared.Found.TheVariants.{Absent, Entry}
 
 -- what was chosen, by the child or none that is handed on
-pub next_missing : (cs : List Link) → next_of cs ≡ NoMore → cs ≡ []
+pub next_missing : (cs : List Link) → next_of cs ≡ None → cs ≡ []
 unfolding next_of
 next_missing [] e = refl
 next_missing (c ∷ cs) e = cc
 
-only : (cs : List Link) (c : Link) → Single cs → next_of cs ≡ Here c → cs ≡ c ∷ []
+only : (cs : List Link) (c : Link) → Single cs → next_of cs ≡ Some c → cs ≡ c ∷ []
 unfolding next_of
 only [] c nobody e = cc
 only (d ∷ []) c somebody e = let same : d ≡ c = cc in ap (λ (x : Link). x ∷ []) same
 only (d ∷ (_ ∷ _)) c h e = elim h [ ]
 
-pub next_chosen : (L : Layout) (image : List ℕ) (k : ℕ) (cs : List Link) (c : Link) → next_of (picked (page_tree L image) Equal k cs) ≡ Here c → picked (page_tree L image) Equal k cs ≡ c ∷ []
+pub next_chosen : (L : Layout) (image : List ℕ) (k : ℕ) (cs : List Link) (c : Link) → next_of (picked (page_tree L image) Equal k cs) ≡ Some c → picked (page_tree L image) Equal k cs ≡ c ∷ []
 next_chosen L image k cs c e = only (picked (page_tree L image) Equal k cs) c (single _ cs) e
 
 -- what is shown of the answer at a leaf page
-pub leaf_none : (L : Layout) (o : Option (List ℕ)) (n : ℕ) → o ≡ none → Absent n ≡ shown L (answer o n)
+pub leaf_none : (L : Layout) (o : Option (List ℕ)) (n : ℕ) → o ≡ None → Ok (Absent n) ≡ shown L (answer o n)
 unfolding shown answer
 leaf_none L o n e = rw e
 
-pub leaf_some : (L : Layout) (o : Option (List ℕ)) (n : ℕ) (e : List ℕ) → o ≡ some e → Entry (fields_of L e) n ≡ shown L (answer o n)
+pub leaf_some : (L : Layout) (o : Option (List ℕ)) (n : ℕ) (e : List ℕ) → o ≡ Some e → Ok (Entry (fields_of L e) n) ≡ shown L (answer o n)
 unfolding shown answer
 leaf_some L o n e h = rw h
 
@@ -64,21 +61,21 @@ module _ (L : Layout) (image : List ℕ) (s : Sought) where
     tested : (l : ℕ) → v ≡ test (page_tree L image) l p
     tested l = page-is ∙ sym (test_is L image l p)
 
-    pub way_refused : (l : ℕ) (r : Refusal) → v ≡ Refused r → Turned r ≡ shown L (counted n (descend (page_tree L image) s k l p))
+    pub way_refused : (l : ℕ) (r : Refusal) → v ≡ Err r → Err r ≡ shown L (counted n (descend (page_tree L image) s k l p))
     unfolding counted shown
     way_refused l r q = ap (λ a. shown L (counted n a)) (sym (step_refused (page_tree L image) s k p v l r (tested l) q))
 
-    pub way_leaf : (l : ℕ) → l ≡ 0 → v ≡ Accepted
+    pub way_leaf : (l : ℕ) → l ≡ 0 → v ≡ Ok tt
         → shown L (answer (scanned s (key_in L) k (entries L (page image p.offset))) (n + 1)) ≡ shown L (counted n (descend (page_tree L image) s k l p))
     way_leaf l h q =
         ap (shown L) (sym (counted_answer n (scanned s (key_in L) k (entries L (page image p.offset))) 1) ∙ ap (counted n) (sym (step_leaf (page_tree L image) s k p v l h (tested l) q)))
 
-    module _ (l : ℕ) (h : l ≡ 0 → ⊥) (q : v ≡ Accepted) where
+    module _ (l : ℕ) (h : l ≡ 0 → ⊥) (q : v ≡ Ok tt) where
       pub way_index : (cs : List Link) → picked (page_tree L image) s k (children (page_tree L image) (l - 1) p) ≡ cs
           → counted n (counted 1 (in_turn (λ c. descend (page_tree L image) s k (l - 1) c) cs)) ≡ counted n (descend (page_tree L image) s k l p)
       way_index cs e = ap (counted n) (sym (step_index (page_tree L image) s k p v l cs h (tested l) q e))
 
-      pub way_none : picked (page_tree L image) s k (children (page_tree L image) (l - 1) p) ≡ [] → Absent (n + 1) ≡ shown L (counted n (descend (page_tree L image) s k l p))
+      pub way_none : picked (page_tree L image) s k (children (page_tree L image) (l - 1) p) ≡ [] → Ok (Absent (n + 1)) ≡ shown L (counted n (descend (page_tree L image) s k l p))
       unfolding counted shown
       way_none e = ap (λ a. shown L (counted n a)) (sym (step_none (page_tree L image) s k p v l h (tested l) q e))
 
@@ -95,11 +92,11 @@ module _ (L : Layout) (image : List ℕ) (s : Sought) where
 
   -- the header, whose check answered v, and then the way from the root
   module _ (key : ℕ) (v : Verdict) (header_is : v ≡ header_fits image) where
-    pub root_refused : (r : Refusal) → v ≡ Refused r → refused r ≡ searched s L image key
+    pub root_refused : (r : Refusal) → v ≡ Err r → refused r ≡ searched s L image key
     unfolding searched
     root_refused r q = sym (ends refused _ _ r (sym header_is ∙ q))
 
-    pub root_on : (p : Link) (l k : ℕ) → v ≡ Accepted → p ≡ root L image → k ≡ asked_for s L key
+    pub root_on : (p : Link) (l k : ℕ) → v ≡ Ok tt → p ≡ root L image → k ≡ asked_for s L key
         → (offset_fits image p.offset ≡ true → l ≡ level_of L (page image p.offset)) → counted 0 (descend (page_tree L image) s k l p) ≡ searched s L image key
     unfolding root_level searched
     root_on p l k q e h f =
@@ -111,20 +108,20 @@ module _ (L : Layout) (image : List ℕ) (s : Sought) where
 
 -- the chosen child has the level below
 pub chosen_level : (L : Layout) (image : List ℕ) (k l : ℕ) (p c : Link) → picked (page_tree L image) Equal k (children (page_tree L image) l p) ≡ c ∷ []
-    → page_fits L image c ≡ Accepted → level_of L (page image c.offset) ≡ l
+    → page_fits L image c ≡ Ok tt → level_of L (page image c.offset) ≡ l
 chosen_level L image k l p c e ok =
     let kids = children (page_tree L image) l p in
     let all : All (Born (page_tree L image) l) (c ∷ []) = subst (All (Born (page_tree L image) l)) e (all_from_seat (Born (page_tree L image) l) Equal _ kids (children_born (page_tree L image) l p)) in
     accepted_level L image c ok l (born_level L image l c all.0)
 
 -- a node is found only where the header is accepted
-pub node_header : (L : Layout) (image : List ℕ) (key : ℕ) (d : Node) (n : ℕ) → node_of L image key ≡ node.Found d n → header_fits image ≡ Accepted
+pub node_header : (L : Layout) (image : List ℕ) (key : ℕ) (d : Node) (n : ℕ) → node_of L image key ≡ Ok (Entry d n) → header_fits image ≡ Ok tt
 unfolding node_of searched as_node shown
 node_header L image key d n e = by (header_fits image) refl
   where
-    by : (v : Verdict) → header_fits image ≡ v → v ≡ Accepted
-    by Accepted v = refl
-    by (Refused r) v =
+    by : (v : Verdict) → header_fits image ≡ v → v ≡ Ok tt
+    by (Ok tt) v = refl
+    by (Err r) v =
         let other = ap (λ a. as_node (shown L a)) (ends refused _ (descend (page_tree L image) Equal (compared L key) (root_level L image) (root L image)) r v) in
         let clash : ◌≡◌ {A = ℕ} 0 1 = cc in
         absurd (omega arith)

@@ -7,10 +7,8 @@ use native.Mathlib.Omega.{arith}
 use lib.ListN.{length}
 use borrow.Author.Tests.{leb-true}
 use Rattle.refusal.specs.declared.Refusal.{Refusal}
-use Rattle.refusal.specs.declared.Verdict.{Verdict}
-use Rattle.refusal.specs.declared.Verdict.TheVariants.{Accepted, Refused}
 use Rattle.refusal.specs.declared.Fault.TheVariants.{PageOffset}
-use Rattle.refusal.specs.Order.{◌at◌, ◌then◌}
+use Rattle.refusal.specs.Order.{Verdict, ◌at◌, ◌then◌}
 use Rattle.refusal.proofs.OrderLaws.{goes, ends, in_order_append}
 use Rattle.keys.specs.Records.{records_from}
 use Rattle.keys.specs.Range.{end_of}
@@ -25,17 +23,17 @@ use Rattle.page.specs.Layout.{shape}
 use Rattle.page.specs.Page.{page, count_of, level_of, key_in, offset_fits, level_fits, may_be_empty, counts_fit, page_fits}
 use Rattle.header.proofs.HeaderLaws.{header_rules_lem}
 use Rattle.page.proofs.PageLaws.{counts_of, level_wanted, child_filled, page_rules_lem, all_of_page, page_offset, page_counts, page_ends}
-use Rattle.tree.specs.declared.Next.TheVariants.{Here, NoMore}
 use Rattle.tree.specs.Tree.{root, root_level, link_of, page_tree, tree_rules, tree_fits}
 use Rattle.tree.specs.Answers.{kids_from, next_of}
 use Rattle.tree.proofs.Children.{all_kids}
+use Rattle.std.specs.Prelude.{Some, None, Ok, Err}
 
 or_false : (a b : Bool) → b ≡ false → (a || b) ≡ true → a ≡ true
 or_false true b e h = refl
 or_false false b e h = cc
 
 -- what an accepted page tells
-module _ (L : Layout) (image : List ℕ) (p : Link) (ok : page_fits L image p ≡ Accepted) where
+module _ (L : Layout) (image : List ℕ) (p : Link) (ok : page_fits L image p ≡ Ok tt) where
   pub accepted_inside : p.offset + 512 ≤ length image
   accepted_inside = page_offset L image p (all_of_page L image p ok)
 
@@ -63,18 +61,18 @@ pub born_level : (L : Layout) (image : List ℕ) (l : ℕ) (c : Link) → Born (
 unfolding link_of
 born_level L image l c b = of_born (page_tree L image) l (λ d. d.level ≡ Exactly l) (λ r e. refl) c b
 
-pub next_level : (L : Layout) (image : List ℕ) (l : ℕ) (p c : Link) (i : ℕ) → next_of (kids_from L image l p i) ≡ Here c
-    → page_fits L image c ≡ Accepted → level_of L (page image c.offset) ≡ l
+pub next_level : (L : Layout) (image : List ℕ) (l : ℕ) (p c : Link) (i : ℕ) → next_of (kids_from L image l p i) ≡ Some c
+    → page_fits L image c ≡ Ok tt → level_of L (page image c.offset) ≡ l
 unfolding kids_from offspring link_of next_of
 next_level L image l p c i e ok = accepted_level L image c ok l (by (records_from (shape L (level_of L (page image p.offset))) (count_of L (page image p.offset)) (page image p.offset) i) e)
   where
-    by : (es : List (List ℕ)) → next_of (offspring (key_in L) (link_of L l) p.range.to es) ≡ Here c → c.level ≡ Exactly l
+    by : (es : List (List ℕ)) → next_of (offspring (key_in L) (link_of L l) p.range.to es) ≡ Some c → c.level ≡ Exactly l
     by [] e = let clash : ◌≡◌ {A = ℕ} 0 1 = cc in absurd (omega arith)
     by (x ∷ xs) e = let same : c ≡ link_of L l (record { from = key_in L x; to = end_of (key_in L) p.range.to xs }) x = cc in ap (λ (z : Link). z.level) same
 
 -- a check of each child from the i-th on
 module _ (L : Layout) (image : List ℕ) (l : ℕ) where
-  pub walk_none : (cs : List Link) → next_of cs ≡ NoMore → Accepted ≡ each (page_tree L image) l cs
+  pub walk_none : (cs : List Link) → next_of cs ≡ None → Ok tt ≡ each (page_tree L image) l cs
   unfolding next_of
   walk_none [] e = sym (each_none (page_tree L image) l)
   walk_none (x ∷ xs) e = cc
@@ -83,43 +81,43 @@ module _ (L : Layout) (image : List ℕ) (l : ℕ) where
     parts : each (page_tree L image) l cs ≡ (v then each (page_tree L image) l rest)
     parts = ap (each (page_tree L image) l) e ∙ each_more (page_tree L image) l c rest ∙ ap (λ (w : Verdict). w then each (page_tree L image) l rest) (sym h)
 
-    pub walk_refused : (r : Refusal) → v ≡ Refused r → v ≡ each (page_tree L image) l cs
-    walk_refused r q = q ∙ sym (parts ∙ ends Refused _ _ r q)
+    pub walk_refused : (r : Refusal) → v ≡ Err r → v ≡ each (page_tree L image) l cs
+    walk_refused r q = q ∙ sym (parts ∙ ends Err _ _ r q)
 
-    pub walk_on : v ≡ Accepted → each (page_tree L image) l rest ≡ each (page_tree L image) l cs
-    walk_on q = sym (parts ∙ goes Refused _ _ q)
+    pub walk_on : v ≡ Ok tt → each (page_tree L image) l rest ≡ each (page_tree L image) l cs
+    walk_on q = sym (parts ∙ goes Err _ _ q)
 
 -- a page, and everything under it
 module _ (L : Layout) (image : List ℕ) (l : ℕ) (p : Link) (v : Verdict) (page-is : v ≡ page_fits L image p) where
-  pub page_refused : (r : Refusal) → v ≡ Refused r → v ≡ check_under (page_tree L image) l p
+  pub page_refused : (r : Refusal) → v ≡ Err r → v ≡ check_under (page_tree L image) l p
   page_refused r q = q ∙ sym (under_refused (page_tree L image) l p r (test_is L image l p ∙ sym page-is ∙ q))
 
   -- nothing stands under a leaf page
   pub page_alone : l ≡ 0 → v ≡ check_under (page_tree L image) l p
   page_alone h = rw h (page-is ∙ sym (under_leaf (page_tree L image) p ∙ test_is L image 0 p))
 
-  pub page_leaf : l ≡ 0 → v ≡ Accepted → Accepted ≡ check_under (page_tree L image) l p
+  pub page_leaf : l ≡ 0 → v ≡ Ok tt → Ok tt ≡ check_under (page_tree L image) l p
   page_leaf h q = sym q ∙ page_alone h
 
-  pub page_index : (l ≡ 0 → ⊥) → v ≡ Accepted → each (page_tree L image) (l - 1) (kids_from L image (l - 1) p 0) ≡ check_under (page_tree L image) l p
+  pub page_index : (l ≡ 0 → ⊥) → v ≡ Ok tt → each (page_tree L image) (l - 1) (kids_from L image (l - 1) p 0) ≡ check_under (page_tree L image) l p
   page_index h q = by l h
     where
       by : (l : ℕ) → (l ≡ 0 → ⊥) → each (page_tree L image) (l - 1) (kids_from L image (l - 1) p 0) ≡ check_under (page_tree L image) l p
       by zero h = absurd (h refl)
       by (suc l) h =
           let w : suc l - 1 ≡ l = omega arith in
-          rw (w, all_kids L image l p) (sym (under_index (page_tree L image) l p ∙ goes Refused _ _ (test_is L image (suc l) p ∙ sym page-is ∙ q)))
+          rw (w, all_kids L image l p) (sym (under_index (page_tree L image) l p ∙ goes Err _ _ (test_is L image (suc l) p ∙ sym page-is ∙ q)))
 
 -- where a page's offset is not allowed, its level plays no part
 module _ (L : Layout) (image : List ℕ) (p : Link) where
-  pub accepted_offset : page_fits L image p ≡ Accepted → offset_fits image p.offset ≡ true
+  pub accepted_offset : page_fits L image p ≡ Ok tt → offset_fits image p.offset ≡ true
   accepted_offset ok = by (offset_fits image p.offset) refl
     where
       by : (b : Bool) → offset_fits image p.offset ≡ b → b ≡ true
       by true e = refl
       by false e = let w = page_ends L image p e in cc
 
-  refuses : offset_fits image p.offset ≡ false → (l : ℕ) → check_under (page_tree L image) l p ≡ Refused (PageOffset at p.offset)
+  refuses : offset_fits image p.offset ≡ false → (l : ℕ) → check_under (page_tree L image) l p ≡ Err (PageOffset at p.offset)
   refuses h l = under_refused (page_tree L image) l p _ (test_is L image l p ∙ sym (page_ends L image p h))
 
   under_any : (l m : ℕ) → (offset_fits image p.offset ≡ true → l ≡ m) → check_under (page_tree L image) l p ≡ check_under (page_tree L image) m p
@@ -135,13 +133,13 @@ unfolding tree_fits tree_rules check_under
 tree_parts L image = rw (header_rules_lem image) (in_order_append (header_rules image) (rules_under (page_tree L image) (root_level L image) (root L image)))
 
 module _ (L : Layout) (image : List ℕ) (v : Verdict) (header_is : v ≡ header_fits image) where
-  pub tree_refused : (r : Refusal) → v ≡ Refused r → v ≡ tree_fits L image
-  tree_refused r q = q ∙ sym (tree_parts L image ∙ ends Refused _ _ r (sym header_is ∙ q))
+  pub tree_refused : (r : Refusal) → v ≡ Err r → v ≡ tree_fits L image
+  tree_refused r q = q ∙ sym (tree_parts L image ∙ ends Err _ _ r (sym header_is ∙ q))
 
-  pub tree_on_lem : (p : Link) (l : ℕ) → v ≡ Accepted → p ≡ root L image
+  pub tree_on_lem : (p : Link) (l : ℕ) → v ≡ Ok tt → p ≡ root L image
       → (offset_fits image p.offset ≡ true → l ≡ level_of L (page image p.offset)) → check_under (page_tree L image) l p ≡ tree_fits L image
   unfolding root_level
   tree_on_lem p l q e f =
       under_any L image p l (level_of L (page image p.offset)) f
       ∙ ap (λ (x : Link). check_under (page_tree L image) (level_of L (page image x.offset)) x) e
-      ∙ sym (tree_parts L image ∙ goes Refused _ _ (sym header_is ∙ q))
+      ∙ sym (tree_parts L image ∙ goes Err _ _ (sym header_is ∙ q))

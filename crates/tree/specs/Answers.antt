@@ -1,11 +1,9 @@
 -- What the lookups hand out. Assumes nothing: these are definitions.
-use Rattle.std.specs.Prelude.{ℕ, ◌≡◌, List, [], ◌∷◌, map}
+use Rattle.std.specs.Prelude.{ℕ, ◌≡◌, List, [], ◌∷◌, map, Option, Some, None, Result, Ok, Err}
 use Rattle.le.specs.Bytes.{field}
-use Rattle.refusal.specs.declared.Verdict.TheVariants.{Accepted}
 use Rattle.edition.specs.declared.Column.{Column}
 use Rattle.edition.specs.declared.Layout.{Layout}
 use Rattle.page.specs.declared.Link.{Link}
-use Rattle.keys.specs.declared.End.{End}
 use Rattle.keys.specs.declared.Sought.TheVariants.{Equal}
 use Rattle.keys.specs.Search.{last_at_most}
 use Rattle.search.specs.SearchTree.{offspring}
@@ -15,16 +13,13 @@ use Rattle.search.specs.Answer.{Answer, found, absent, refused}
 use Rattle.page.specs.Layout.{shape}
 use Rattle.page.specs.Page.{page, count_of, level_of, entries, key_in, page_fits}
 use Rattle.tree.specs.declared.Fields.{Fields}
-use Rattle.tree.specs.declared.Found.{Found}
-use Rattle.tree.specs.declared.Found.TheVariants.{Entry, Absent, Refused}
-use Rattle.tree.specs.declared.FoundNode.{FoundNode}
-use Rattle.tree.specs.declared.FoundNode.TheVariants as node
-use Rattle.tree.specs.declared.FoundBlock.{FoundBlock}
-use Rattle.tree.specs.declared.FoundBlock.TheVariants as block
-use Rattle.tree.specs.declared.Next.{Next}
-use Rattle.tree.specs.declared.Next.TheVariants.{Here, NoMore}
 use Rattle.tree.specs.Tree.{link_of}
 use Rattle.tree.specs.Lookup.{lookup, next}
+use Rattle.refusal.specs.declared.Refusal.{Refusal}
+use Rattle.tree.specs.declared.Found.{Found}
+use Rattle.tree.specs.declared.Node.{Node}
+use Rattle.tree.specs.declared.Listed.{Listed}
+use Rattle.tree.specs.declared.Found.TheVariants.{Absent, Entry}
 
 abbrev pub column_of : List ℕ → Column → ℕ
 column_of e c = field e c.place c.width
@@ -39,33 +34,33 @@ fields_of L e =
       fourth = column_of e L.fourth;
     }
 
-unfoldable pub shown : Layout → Answer (List ℕ) → Found
-shown L (found e n) = Entry (fields_of L e) n
-shown L (absent n) = Absent n
-shown L (refused r) = Refused r
+unfoldable pub shown : Layout → Answer (List ℕ) → Result (Found Fields) Refusal
+shown L (found e n) = Ok (Entry (fields_of L e) n)
+shown L (absent n) = Ok (Absent n)
+shown L (refused r) = Err r
 
 -- the outcome of a node lookup, and of a block lookup, by the layout of either tree in some edition
-unfoldable pub as_node : Found → FoundNode
-as_node (Entry f n) = node.Found (record { node = f.first; block = f.second; subnode = f.third; parent = f.fourth }) n
-as_node (Absent n) = node.Absent n
-as_node (Refused r) = node.Refused r
+unfoldable pub as_node : Result (Found Fields) Refusal → Result (Found Node) Refusal
+as_node (Ok (Entry f n)) = Ok (Entry (record { node = f.first; block = f.second; subnode = f.third; parent = f.fourth }) n)
+as_node (Ok (Absent n)) = Ok (Absent n)
+as_node (Err r) = Err r
 
-unfoldable pub node_of : Layout → List ℕ → ℕ → FoundNode
+unfoldable pub node_of : Layout → List ℕ → ℕ → Result (Found Node) Refusal
 node_of L image key = as_node (shown L (lookup L image key))
 
-unfoldable pub as_block : Found → FoundBlock
-as_block (Entry f n) = block.Found (record { block = f.first; offset = f.second; size = f.third; references = f.fourth }) n
-as_block (Absent n) = block.Absent n
-as_block (Refused r) = block.Refused r
+unfoldable pub as_block : Result (Found Fields) Refusal → Result (Found Listed) Refusal
+as_block (Ok (Entry f n)) = Ok (Entry (record { block = f.first; offset = f.second; size = f.third; references = f.fourth }) n)
+as_block (Ok (Absent n)) = Ok (Absent n)
+as_block (Err r) = Err r
 
-unfoldable pub block_of : Layout → List ℕ → ℕ → FoundBlock
+unfoldable pub block_of : Layout → List ℕ → ℕ → Result (Found Listed) Refusal
 block_of L image key = as_block (shown L (lookup L image key))
 
 -- the first entry from a key on, in each tree
-unfoldable pub next_node_of : Layout → List ℕ → ℕ → FoundNode
+unfoldable pub next_node_of : Layout → List ℕ → ℕ → Result (Found Node) Refusal
 next_node_of L image from = as_node (shown L (next L image from))
 
-unfoldable pub next_block_of : Layout → List ℕ → ℕ → FoundBlock
+unfoldable pub next_block_of : Layout → List ℕ → ℕ → Result (Found Listed) Refusal
 next_block_of L image from = as_block (shown L (next L image from))
 
 -- the children of a page from the i-th on
@@ -74,16 +69,16 @@ kids_from L image l p i =
     children_from (key_in L) (link_of L l) p.range.to (shape L (level_of L (page image p.offset))) (count_of L (page image p.offset)) (page image p.offset) i
 
 -- the chosen child of a page g, or none
-unfoldable pub chosen_of : Layout → ℕ → End → ℕ → List ℕ → List Link
+unfoldable pub chosen_of : Layout → ℕ → Option ℕ → ℕ → List ℕ → List Link
 chosen_of L l to k g =
     let kids = offspring (key_in L) (link_of L l) to (entries L g) in
     from_seat Equal (last_at_most k (map (λ c. c.range.from) kids)) kids
 
 -- a child that was found, or none
-unfoldable pub next_of : List Link → Next
-next_of [] = NoMore
-next_of (c ∷ cs) = Here c
+unfoldable pub next_of : List Link → Option Link
+next_of [] = None
+next_of (c ∷ cs) = Some c
 
 -- an accepted page here has this level
 abbrev pub LevelIs : Layout → List ℕ → ℕ → Link → Type 0
-LevelIs L image l p = page_fits L image p ≡ Accepted → level_of L (page image p.offset) ≡ l
+LevelIs L image l p = page_fits L image p ≡ Ok tt → level_of L (page image p.offset) ≡ l

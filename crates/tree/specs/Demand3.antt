@@ -1,9 +1,8 @@
 -- Demand 3, of a tree of any layout: what holds of every image whose header and tree are accepted. Assumes nothing: these are definitions.
-use Rattle.std.specs.Prelude.{ℕ, ◌+◌, ◌≤◌, ◌≡◌, true, ◌↔◌, length}
+use Rattle.std.specs.Prelude.{ℕ, ◌+◌, ◌≤◌, ◌≡◌, true, ◌↔◌, length, Ok}
 use mathlib.Core.List.{List, map, Memᴰ}
 use Rattle.le.specs.Bytes.{part}
 use Rattle.refusal.specs.declared.Refusal.{Refusal}
-use Rattle.refusal.specs.declared.Verdict.TheVariants.{Accepted}
 use Rattle.refusal.specs.Order.{FirstFault}
 use Rattle.keys.specs.declared.Sought.{Sought}
 use Rattle.keys.specs.declared.Sought.TheVariants.{Equal}
@@ -33,7 +32,7 @@ pub record Demand3 (L : Layout) (image : List ℕ) : Type 0 where
   pub short : (key : ℕ) → length (path L image key) ≤ root_level L image + 1
 
 abbrev pub Demand3Holds : Type 0
-Demand3Holds = (L : Layout) (image : List ℕ) → tree_fits L image ≡ Accepted → Demand3 L image
+Demand3Holds = (L : Layout) (image : List ℕ) → tree_fits L image ≡ Ok tt → Demand3 L image
 
 -- "Nothing off the path changes the answer": images that agree in length, in the header's 564 bytes and on the pages of the key's path
 pub record AgreeOnPath (L : Layout) (key : ℕ) (one other : List ℕ) : Type 0 where

@@ -1,8 +1,6 @@
 -- What a listing tells of a tree, over any layout. Assumes nothing: these are definitions.
-use Rattle.std.specs.Prelude.{ℕ, ◌+◌, ◌*◌, ◌^◌, ◌≤◌, ◌<◌, ◌≡◌, ◌↔◌, List, length}
-use Rattle.std.proofs.Math.Option.{none}
+use Rattle.std.specs.Prelude.{ℕ, ◌+◌, ◌*◌, ◌^◌, ◌≤◌, ◌<◌, ◌≡◌, ◌↔◌, List, length, None, Ok}
 use Rattle.le.specs.Bytes.{Bytes}
-use Rattle.refusal.specs.declared.Verdict.TheVariants.{Accepted}
 use Rattle.keys.specs.declared.Sought.TheVariants.{AtLeast}
 use Rattle.keys.specs.Plain.{All}
 use Rattle.keys.specs.Search.{from_key}
@@ -23,10 +21,10 @@ pub record Listing (L : Layout) (image : List ℕ) : Type 0 where
   -- the answer is the first entry of the plain scan whose key is at least `from`, and never a refusal
   pub answers : (from : ℕ) → Says (next L image from) (from_key (key_in L) (as_given L from) (scan L image))
   -- absent exactly when the key of every leaf entry is below
-  pub absent_iff : (from : ℕ) → Says (next L image from) none ↔ All (λ e. key_in L e < as_given L from) (scan L image)
+  pub absent_iff : (from : ℕ) → Says (next L image from) None ↔ All (λ e. key_in L e < as_given L from) (scan L image)
 
 abbrev pub ListingHolds : Type 0
-ListingHolds = (L : Layout) (image : List ℕ) → tree_fits L image ≡ Accepted → Listing L image
+ListingHolds = (L : Layout) (image : List ℕ) → tree_fits L image ≡ Ok tt → Listing L image
 
 -- in any image at all, accepted or not, refused or not, a listing reads at most twice the root's level plus one pages
 abbrev pub FewPagesHolds : Type 0
@@ -34,4 +32,4 @@ FewPagesHolds = (L : Layout) (image : List ℕ) (from : ℕ) → length (pages_r
 
 -- going from 0 lists exactly the scan, in order, and ends; a number that stands in the tree can be asked for
 abbrev pub ListsHolds : Type 0
-ListsHolds = (L : Layout) (image : List ℕ) → L.key ≤ L.sought → Bytes image → tree_fits L image ≡ Accepted → TreeLists L image 0 (scan L image)
+ListsHolds = (L : Layout) (image : List ℕ) → L.key ≤ L.sought → Bytes image → tree_fits L image ≡ Ok tt → TreeLists L image 0 (scan L image)

@@ -1,9 +1,7 @@
 -- Document 01, "Pages and trees": a tree's root, its pages as the branches of a search tree, the whole-tree check, its leaf entries from left to right. Assumes nothing: these are definitions.
-use Rattle.std.specs.Prelude.{ℕ, ◌+◌, List, ◌++◌, map}
+use Rattle.std.specs.Prelude.{ℕ, ◌+◌, List, ◌++◌, map, None}
 use Rattle.le.specs.Bytes.{field}
-use Rattle.refusal.specs.declared.Verdict.{Verdict}
-use Rattle.refusal.specs.Order.{Rule, in_order}
-use Rattle.keys.specs.declared.End.TheVariants.{Open}
+use Rattle.refusal.specs.Order.{Verdict, Rule, in_order}
 use Rattle.keys.specs.declared.Range.{Range}
 use Rattle.search.specs.SearchTree.{SearchTree, rules_under, leaves, routes}
 use Rattle.header.specs.Header.{header_rules}
@@ -19,7 +17,7 @@ root L image =
       number = field image L.root L.word;
       offset = field image (L.root + L.word) L.word;
       level = AtRoot;
-      range = record { from = 0; to = Open };
+      range = record { from = 0; to = None };
     }
 
 -- the level that the root page states

@@ -49,13 +49,6 @@ pub struct Node {
     pub parent: u64,
 }
 
-#[derive(Clone, Copy)]
-pub enum FoundNode {
-    Found(Node, u64),
-    Absent(u64),
-    Refused(Refusal),
-}
-
 // A block as its tree lists it.
 #[derive(Clone, Copy)]
 pub struct Listed {
@@ -65,29 +58,6 @@ pub struct Listed {
     pub references: u64,
 }
 
-#[derive(Clone, Copy)]
-pub enum FoundBlock {
-    Found(Listed, u64),
-    Absent(u64),
-    Refused(Refusal),
-}
-
-// Where the way down of a lookup ends, and the count of pages read: at a leaf page; in an index page
-// without an entry to go by; or at a page that is refused.
-#[derive(Clone, Copy)]
-pub enum Way {
-    Leaf(Link, u64),
-    Nowhere(u64),
-    Refused(Refusal),
-}
-
-// A child, or none.
-#[derive(Clone, Copy)]
-pub enum Next {
-    Here(Link),
-    NoMore,
-}
-
 // The child of the i-th entry.
 fn link_at(
     l: Layout,
@@ -95,7 +65,7 @@ fn link_at(
     shape: Shape,
     count: usize,
     level: usize,
-    to: End,
+    to: Option<u64>,
     i: usize,
 ) -> Link
     requires { RecordsIn shape count page.now × (shape.width ≡ l.key) × (shape.reserved ≡ l.reserved) × (l.word * 3 ≤ shape.size) × (l.word ≤ 8) × (i < count) × (count ≤ 255) }
@@ -115,24 +85,24 @@ fn link_at(
 }
 
 // The child of the i-th entry of a page whose counts fit, if there is such an entry.
-fn next_link(l: Layout, page: &[u8], level: usize, p: Link, i: usize) -> Next
+fn next_link(l: Layout, page: &[u8], level: usize, p: Link, i: usize) -> Option<Link>
     requires { FairLayout l × (length page.now ≡ 512) × (counts_fit l p page.now ≡ true) }
     ensures { result ≡ next_of (children_from (key_in l) (link_of l level) p.range.to (shape l (level_of l page.now)) (count_of l page.now) page.now i) }
 {
     let count = page::count_of(l, page);
     if count <= i {
-        return Next::NoMore;
+        return None;
     }
     let shape = page::shape_in(l, page);
     let range = p.range;
     let to = range.to;
     let child = link_at(l, page, shape, count, level, to, i);
-    Next::Here(child)
+    Some(child)
 }
 
 // The same in an image, of an accepted page.
-fn child_at(image: &[u8], l: Layout, level: usize, p: Link, i: usize) -> Next
-    requires { FairLayout l × (page_fits l image.now p ≡ Verdict.Accepted) }
+fn child_at(image: &[u8], l: Layout, level: usize, p: Link, i: usize) -> Option<Link>
+    requires { FairLayout l × (page_fits l image.now p ≡ Ok tt) }
     ensures { result ≡ next_of (kids_from l image.now level p i) }
 {
     let at = p.offset as usize;
@@ -141,7 +111,7 @@ fn child_at(image: &[u8], l: Layout, level: usize, p: Link, i: usize) -> Next
 
 // How many entries an accepted page has.
 fn count_for(image: &[u8], l: Layout, p: Link) -> usize
-    requires { FairLayout l × (page_fits l image.now p ≡ Verdict.Accepted) }
+    requires { FairLayout l × (page_fits l image.now p ≡ Ok tt) }
     ensures { (result ≡ count_of l (page image.now p.offset)) × (result < 256) }
 {
     let at = p.offset as usize;
@@ -150,7 +120,7 @@ fn count_for(image: &[u8], l: Layout, p: Link) -> usize
 
 // The shape of its entries.
 fn entry_for(image: &[u8], l: Layout, p: Link) -> Shape
-    requires { FairLayout l × (page_fits l image.now p ≡ Verdict.Accepted) }
+    requires { FairLayout l × (page_fits l image.now p ≡ Ok tt) }
     ensures { result ≡ shape l (level_of l (page image.now p.offset)) }
 {
     let at = p.offset as usize;
@@ -167,8 +137,8 @@ fn link_for(
     p: Link,
     i: usize,
 ) -> Link
-    requires { FairLayout l × (page_fits l image.now p ≡ Verdict.Accepted) × (entry ≡ shape l (level_of l (page image.now p.offset))) × (count ≡ count_of l (page image.now p.offset)) × (i < count) }
-    ensures { next_of (kids_from l image.now level p i) ≡ Next.Here result }
+    requires { FairLayout l × (page_fits l image.now p ≡ Ok tt) × (entry ≡ shape l (level_of l (page image.now p.offset))) × (count ≡ count_of l (page image.now p.offset)) × (i < count) }
+    ensures { next_of (kids_from l image.now level p i) ≡ Some result }
 {
     let at = p.offset as usize;
     let range = p.range;
@@ -191,11 +161,11 @@ fn check_under(image: &[u8], l: Layout, level: usize, p: Link) -> Verdict
     ensures { result ≡ check_under (page_tree l image.now) level p }
 {
     let verdict = verdict_on(image, l, p);
-    let Verdict::Accepted = verdict else {
+    let Ok(()) = verdict else {
         return verdict;
     };
     if level == 0 {
-        return Verdict::Accepted;
+        return Ok(());
     }
     check_children(image, l, level - 1, p)
 }
@@ -203,7 +173,7 @@ fn check_under(image: &[u8], l: Layout, level: usize, p: Link) -> Verdict
 // The check of an accepted page's children, each with everything under it; of a leaf page its test is all.
 #[cycle(check_children_check_under)]
 fn check_children(image: &[u8], l: Layout, level: usize, p: Link) -> Verdict
-    requires { FairLayout l × (page_fits l image.now p ≡ Verdict.Accepted) }
+    requires { FairLayout l × (page_fits l image.now p ≡ Ok tt) }
     ensures { result ≡ each (page_tree l image.now) level (kids_from l image.now level p 0) }
 {
     let count = count_for(image, l, p);
@@ -213,40 +183,40 @@ fn check_children(image: &[u8], l: Layout, level: usize, p: Link) -> Verdict
         let child = link_for(image, l, entry, count, level, p, i);
         if level == 0 {
             let verdict = verdict_on(image, l, child);
-            let Verdict::Accepted = verdict else {
+            let Ok(()) = verdict else {
                 return verdict;
             };
         } else {
             let verdict = check_under(image, l, level, child);
-            let Verdict::Accepted = verdict else {
+            let Ok(()) = verdict else {
                 return verdict;
             };
         }
         i += 1;
     }
-    Verdict::Accepted
+    Ok(())
 }
 
 // The chosen child of a page whose counts fit: that of the last entry whose key is at most the key sought.
-fn choose(l: Layout, page: &[u8], level: usize, p: Link, key: u64) -> Next
+fn choose(l: Layout, page: &[u8], level: usize, p: Link, key: u64) -> Option<Link>
     requires { FairLayout l × (length page.now ≡ 512) × (counts_fit l p page.now ≡ true) }
     ensures { result ≡ next_of (chosen_of l level p.range.to key page.now) }
 {
     let count = page::count_of(l, page);
     let shape = page::shape_in(l, page);
     let seat = keys::last_at_most(page, shape, count, key);
-    let Seat::At(i) = seat else {
-        return Next::NoMore;
+    let Some(i) = seat else {
+        return None;
     };
     let range = p.range;
     let to = range.to;
     let child = link_at(l, page, shape, count, level, to, i);
-    Next::Here(child)
+    Some(child)
 }
 
 // The same in an image, of an accepted page.
-fn child_for(image: &[u8], l: Layout, level: usize, p: Link, key: u64) -> Next
-    requires { FairLayout l × (page_fits l image.now p ≡ Verdict.Accepted) }
+fn child_for(image: &[u8], l: Layout, level: usize, p: Link, key: u64) -> Option<Link>
+    requires { FairLayout l × (page_fits l image.now p ≡ Ok tt) }
     ensures { result ≡ next_of (picked (page_tree l image.now) Sought.Equal key (children (page_tree l image.now) level p)) }
 {
     let at = p.offset as usize;
@@ -283,23 +253,23 @@ fn fields_at(l: Layout, page: &[u8], place: usize) -> Fields
 }
 
 // The answer at a leaf page whose counts fit, when so many pages have been read.
-fn leaf_answer(l: Layout, page: &[u8], p: Link, sought: Sought, key: u64, pages: u64) -> Found
+fn leaf_answer(l: Layout, page: &[u8], p: Link, sought: Sought, key: u64, pages: u64) -> Result<Found<Fields>, Refusal>
     requires { FairLayout l × (length page.now ≡ 512) × (counts_fit l p page.now ≡ true) × (level_of l page.now ≡ 0) }
     ensures { result ≡ shown l (answer (scanned sought (key_in l) key (entries l page.now)) pages) }
 {
     let count = page::count_of(l, page);
     let shape = page::shape_of(l, 0);
     let seat = keys::first_that(page, shape, count, sought, key);
-    let Seat::At(i) = seat else {
-        return Found::Absent(pages);
+    let Some(i) = seat else {
+        return Ok(Found::Absent(pages));
     };
     let fields = fields_at(l, page, i * l.leafsize);
-    Found::Entry(fields, pages)
+    Ok(Found::Entry(fields, pages))
 }
 
 // The same in an image, of an accepted page.
-fn leaf_for(image: &[u8], l: Layout, p: Link, sought: Sought, key: u64, pages: u64) -> Found
-    requires { FairLayout l × (page_fits l image.now p ≡ Verdict.Accepted) × (level_of l (page image.now p.offset) ≡ 0) }
+fn leaf_for(image: &[u8], l: Layout, p: Link, sought: Sought, key: u64, pages: u64) -> Result<Found<Fields>, Refusal>
+    requires { FairLayout l × (page_fits l image.now p ≡ Ok tt) × (level_of l (page image.now p.offset) ≡ 0) }
     ensures { result ≡ shown l (answer (scanned sought (key_in l) key (entries l (page image.now p.offset))) pages) }
 {
     let at = p.offset as usize;
@@ -308,19 +278,19 @@ fn leaf_for(image: &[u8], l: Layout, p: Link, sought: Sought, key: u64, pages: u
 
 // The way down from an accepted page of a level, when so many pages have been read before it.
 fn way_from(image: &[u8], l: Layout, level: usize, p: Link, key: u64, pages: u64) -> Way
-    requires { FairLayout l × (page_fits l image.now p ≡ Verdict.Accepted) × (level_of l (page image.now p.offset) ≡ level) × (pages + level ≤ 1000) }
+    requires { FairLayout l × (page_fits l image.now p ≡ Ok tt) × (level_of l (page image.now p.offset) ≡ level) × (pages + level ≤ 1000) }
     ensures { (at_end l image.now result key ≡ counted pages (descend (page_tree l image.now) Sought.Equal key level p)) × Leading l image.now level p pages result }
 {
     if level == 0 {
-        return Way::Leaf(p, pages + 1);
+        return Ok(Found::Entry(p, pages + 1));
     }
     let next = child_for(image, l, level - 1, p, key);
-    let Next::Here(child) = next else {
-        return Way::Nowhere(pages + 1);
+    let Some(child) = next else {
+        return Ok(Found::Absent(pages + 1));
     };
     let verdict = verdict_on(image, l, child);
-    if let Verdict::Refused(refusal) = verdict {
-        return Way::Refused(refusal);
+    if let Err(refusal) = verdict {
+        return Err(refusal);
     }
     way_from(image, l, level - 1, child, key, pages + 1)
 }
@@ -330,21 +300,21 @@ fn leads_to(way: Way, key: u64) -> bool
     ensures { result ≡ leads_to way key }
 {
     match way {
-        Way::Leaf(leaf, _) => keys::in_range(leaf.range, key),
-        Way::Nowhere(_) => false,
-        Way::Refused(_) => false,
+        Ok(Found::Entry(leaf, _)) => keys::in_range(leaf.range, key),
+        Ok(Found::Absent(_)) => false,
+        Err(_) => false,
     }
 }
 
 // The answer at the end of a way from the root page.
-fn end_of(image: &[u8], l: Layout, way: Way, key: u64) -> Found
+fn end_of(image: &[u8], l: Layout, way: Way, key: u64) -> Result<Found<Fields>, Refusal>
     requires { FairLayout l × FromRoot l image.now way }
     ensures { result ≡ shown l (at_end l image.now way key) }
 {
     match way {
-        Way::Leaf(leaf, pages) => leaf_for(image, l, leaf, Sought::Equal, key, pages),
-        Way::Nowhere(pages) => Found::Absent(pages),
-        Way::Refused(refusal) => Found::Refused(refusal),
+        Ok(Found::Entry(leaf, pages)) => leaf_for(image, l, leaf, Sought::Equal, key, pages),
+        Ok(Found::Absent(pages)) => Ok(Found::Absent(pages)),
+        Err(refusal) => Err(refusal),
     }
 }
 
@@ -360,7 +330,7 @@ fn start_in(l: Layout, page: &[u8], p: Link, key: u64) -> usize
 
 // The same in an image, of an accepted page.
 fn start_for(image: &[u8], l: Layout, p: Link, key: u64) -> usize
-    requires { FairLayout l × (page_fits l image.now p ≡ Verdict.Accepted) }
+    requires { FairLayout l × (page_fits l image.now p ≡ Ok tt) }
     ensures { (result ≡ start (last_at_most key (map (key_in l) (entries l (page image.now p.offset))))) × (result ≤ 255) }
 {
     let at = p.offset as usize;
@@ -369,28 +339,28 @@ fn start_for(image: &[u8], l: Layout, p: Link, key: u64) -> usize
 
 // The first entry from a key on under a page of a level, when so many pages have been read. The child
 // behind one that answers absent begins above the key, so it never answers absent itself.
-fn seek(image: &[u8], l: Layout, level: usize, p: Link, key: u64, pages: u64) -> Found
+fn seek(image: &[u8], l: Layout, level: usize, p: Link, key: u64, pages: u64) -> Result<Found<Fields>, Refusal>
     requires { FairLayout l × LevelIs l image.now level p × (level ≤ 255) × (pages + 512 * level ≤ 200000) }
     ensures { result ≡ shown l (counted pages (descend (page_tree l image.now) Sought.AtLeast key level p)) }
 {
     let checked = verdict_on(image, l, p);
-    if let Verdict::Refused(wrong) = checked {
-        return Found::Refused(wrong);
+    if let Err(wrong) = checked {
+        return Err(wrong);
     }
     if level == 0 {
         return leaf_for(image, l, p, Sought::AtLeast, key, pages + 1);
     }
     let i = start_for(image, l, p, key);
     let first = child_at(image, l, level - 1, p, i);
-    let Next::Here(child) = first else {
-        return Found::Absent(pages + 1);
+    let Some(child) = first else {
+        return Ok(Found::Absent(pages + 1));
     };
     let found = seek(image, l, level - 1, child, key, pages + 1);
-    let Found::Absent(read) = found else {
+    let Ok(Found::Absent(read)) = found else {
         return found;
     };
     let second = child_at(image, l, level - 1, p, i + 1);
-    let Next::Here(further) = second else {
+    let Some(further) = second else {
         return found;
     };
     seek(image, l, level - 1, further, key, read)
@@ -411,7 +381,7 @@ fn root_link(image: &[u8], l: Layout) -> Link
         level: Level::AtRoot,
         range: Range {
             from: 0,
-            to: End::Open,
+            to: None,
         },
     }
 }
@@ -434,7 +404,7 @@ pub fn check_tree(image: &[u8], l: Layout) -> Verdict
     ensures { result ≡ tree_fits l image.now }
 {
     let verdict = header::check_header(image);
-    let Verdict::Accepted = verdict else {
+    let Ok(()) = verdict else {
         return verdict;
     };
     let p = root_link(image, l);
@@ -443,7 +413,7 @@ pub fn check_tree(image: &[u8], l: Layout) -> Verdict
 
 // For a call that looks up many keys in an image whose header is accepted: the check of the root page.
 pub fn check_root(image: &[u8], l: Layout) -> Verdict
-    requires { FairLayout l × (header_fits image.now ≡ Verdict.Accepted) }
+    requires { FairLayout l × (header_fits image.now ≡ Ok tt) }
     ensures { result ≡ start_fits l image.now }
 {
     verdict_on(image, l, root_link(image, l))
@@ -455,7 +425,7 @@ pub fn check_start(image: &[u8], l: Layout) -> Verdict
     ensures { result ≡ start_fits l image.now }
 {
     let verdict = header::check_header(image);
-    let Verdict::Accepted = verdict else {
+    let Ok(()) = verdict else {
         return verdict;
     };
     check_root(image, l)
@@ -467,8 +437,8 @@ pub fn way_to(image: &[u8], l: Layout, start: Verdict, last: Way, key: u64) -> W
     requires { FairLayout l × (start ≡ start_fits l image.now) × FromRoot l image.now last }
     ensures { (at_end l image.now result (compared l key) ≡ lookup l image.now key) × FromRoot l image.now result }
 {
-    if let Verdict::Refused(refusal) = start {
-        return Way::Refused(refusal);
+    if let Err(refusal) = start {
+        return Err(refusal);
     }
     let sought = page::compared(l, key);
     if leads_to(last, sought) {
@@ -480,67 +450,64 @@ pub fn way_to(image: &[u8], l: Layout, start: Verdict, last: Way, key: u64) -> W
 }
 
 // The lookup of a key in an image whose header is accepted.
-fn find_in(image: &[u8], l: Layout, key: u64) -> Found
-    requires { FairLayout l × (header_fits image.now ≡ Verdict.Accepted) }
+fn find_in(image: &[u8], l: Layout, key: u64) -> Result<Found<Fields>, Refusal>
+    requires { FairLayout l × (header_fits image.now ≡ Ok tt) }
     ensures { result ≡ shown l (lookup l image.now key) }
 {
     let start = check_root(image, l);
-    let way = way_to(image, l, start, Way::Nowhere(0), key);
+    let way = way_to(image, l, start, Ok(Found::Absent(0)), key);
     end_of(image, l, way, page::compared(l, key))
 }
 
 // The lookup of a key.
-fn find(image: &[u8], l: Layout, key: u64) -> Found
+fn find(image: &[u8], l: Layout, key: u64) -> Result<Found<Fields>, Refusal>
     requires { FairLayout l }
     ensures { result ≡ shown l (lookup l image.now key) }
 {
     let verdict = header::check_header(image);
-    if let Verdict::Refused(refusal) = verdict {
-        return Found::Refused(refusal);
+    if let Err(refusal) = verdict {
+        return Err(refusal);
     }
     find_in(image, l, key)
 }
 
 // The first entry from a key on.
-fn find_next(image: &[u8], l: Layout, from: u64) -> Found
+fn find_next(image: &[u8], l: Layout, from: u64) -> Result<Found<Fields>, Refusal>
     requires { FairLayout l }
     ensures { result ≡ shown l (next l image.now from) }
 {
     let verdict = header::check_header(image);
-    if let Verdict::Refused(refusal) = verdict {
-        return Found::Refused(refusal);
+    if let Err(refusal) = verdict {
+        return Err(refusal);
     }
     let p = root_link(image, l);
     let level = stated_level(image, l, p.offset);
     seek(image, l, level, p, page::as_given(l, from), 0)
 }
 
-fn as_node(found: Found) -> FoundNode
+fn as_node(found: Result<Found<Fields>, Refusal>) -> Result<Found<Node>, Refusal>
     ensures { result ≡ as_node found }
 {
     match found {
-        Found::Entry(fields, pages) => FoundNode::Found(
-            Node {
+        Ok(Found::Entry(fields, pages)) => Ok(Found::Entry(Node {
                 node: fields.first,
                 block: fields.second,
                 subnode: fields.third,
                 parent: fields.fourth,
-            },
-            pages,
-        ),
-        Found::Absent(pages) => FoundNode::Absent(pages),
-        Found::Refused(refusal) => FoundNode::Refused(refusal),
+            }, pages)),
+        Ok(Found::Absent(pages)) => Ok(Found::Absent(pages)),
+        Err(refusal) => Err(refusal),
     }
 }
 
-pub fn find_node(image: &[u8], l: Layout, node: u64) -> FoundNode
+pub fn find_node(image: &[u8], l: Layout, node: u64) -> Result<Found<Node>, Refusal>
     requires { FairLayout l }
     ensures { result ≡ node_of l image.now node }
 {
     as_node(find(image, l, node))
 }
 
-pub fn next_node(image: &[u8], l: Layout, from: u64) -> FoundNode
+pub fn next_node(image: &[u8], l: Layout, from: u64) -> Result<Found<Node>, Refusal>
     requires { FairLayout l }
     ensures { result ≡ next_node_of l image.now from }
 {
@@ -548,32 +515,29 @@ pub fn next_node(image: &[u8], l: Layout, from: u64) -> FoundNode
 }
 
 // The node at the end of its way.
-pub fn node_at(image: &[u8], l: Layout, way: Way, node: u64) -> FoundNode
+pub fn node_at(image: &[u8], l: Layout, way: Way, node: u64) -> Result<Found<Node>, Refusal>
     requires { FairLayout l × FromRoot l image.now way × (at_end l image.now way (compared l node) ≡ lookup l image.now node) }
     ensures { result ≡ node_of l image.now node }
 {
     as_node(end_of(image, l, way, page::compared(l, node)))
 }
 
-fn as_block(found: Found) -> FoundBlock
+fn as_block(found: Result<Found<Fields>, Refusal>) -> Result<Found<Listed>, Refusal>
     ensures { result ≡ as_block found }
 {
     match found {
-        Found::Entry(fields, pages) => FoundBlock::Found(
-            Listed {
+        Ok(Found::Entry(fields, pages)) => Ok(Found::Entry(Listed {
                 block: fields.first,
                 offset: fields.second,
                 size: fields.third,
                 references: fields.fourth,
-            },
-            pages,
-        ),
-        Found::Absent(pages) => FoundBlock::Absent(pages),
-        Found::Refused(refusal) => FoundBlock::Refused(refusal),
+            }, pages)),
+        Ok(Found::Absent(pages)) => Ok(Found::Absent(pages)),
+        Err(refusal) => Err(refusal),
     }
 }
 
-pub fn find_block(image: &[u8], l: Layout, block: u64) -> FoundBlock
+pub fn find_block(image: &[u8], l: Layout, block: u64) -> Result<Found<Listed>, Refusal>
     requires { FairLayout l }
     ensures { result ≡ block_of l image.now block }
 {
@@ -581,22 +545,22 @@ pub fn find_block(image: &[u8], l: Layout, block: u64) -> FoundBlock
 }
 
 // The same in an image whose header is accepted, for a call that looks up many blocks.
-pub fn find_block_in(image: &[u8], l: Layout, block: u64) -> FoundBlock
-    requires { FairLayout l × (header_fits image.now ≡ Verdict.Accepted) }
+pub fn find_block_in(image: &[u8], l: Layout, block: u64) -> Result<Found<Listed>, Refusal>
+    requires { FairLayout l × (header_fits image.now ≡ Ok tt) }
     ensures { result ≡ block_of l image.now block }
 {
     as_block(find_in(image, l, block))
 }
 
 // The block at the end of its way.
-pub fn block_at(image: &[u8], l: Layout, way: Way, block: u64) -> FoundBlock
+pub fn block_at(image: &[u8], l: Layout, way: Way, block: u64) -> Result<Found<Listed>, Refusal>
     requires { FairLayout l × FromRoot l image.now way × (at_end l image.now way (compared l block) ≡ lookup l image.now block) }
     ensures { result ≡ block_of l image.now block }
 {
     as_block(end_of(image, l, way, page::compared(l, block)))
 }
 
-pub fn next_block(image: &[u8], l: Layout, from: u64) -> FoundBlock
+pub fn next_block(image: &[u8], l: Layout, from: u64) -> Result<Found<Listed>, Refusal>
     requires { FairLayout l }
     ensures { result ≡ next_block_of l image.now from }
 {

@@ -12,16 +12,16 @@ returns-in_default c =
 pub returns-then-out-size : goal.returns-then-out-size
 returns-then-out-size c =
     let a = c.args in
-    let r = read_short a.e a.image.now a.block a.out.now _ (sym c.check_block-checked.ensures ∙ c.in-Block.is) (omega arith) in
+    let r = read_short a.e a.image.now a.block a.out.now _ (sym c.check_block-checked.ensures ∙ c.in-Ok.is) (omega arith) in
     record { answer = r.0; buffer = r.1 }
 
 pub block_into-requires : goal.block_into-requires
 block_into-requires c =
     let a = c.args in
-    (checked_large _ _ _ _ (sym c.check_block-checked.ensures ∙ c.in-Block.is), checked_inside _ _ _ _ (sym c.check_block-checked.ensures ∙ c.in-Block.is), omega arith)
+    (checked_large _ _ _ _ (sym c.check_block-checked.ensures ∙ c.in-Ok.is), checked_inside _ _ _ _ (sym c.check_block-checked.ensures ∙ c.in-Ok.is), omega arith)
 
 pub returns : goal.returns
 returns c =
     let a = c.args in
-    let r = read_fills a.e a.image.now a.block a.out.now _ (sym c.check_block-checked.ensures ∙ c.in-Block.is) (omega arith) in
+    let r = read_fills a.e a.image.now a.block a.out.now _ (sym c.check_block-checked.ensures ∙ c.in-Ok.is) (omega arith) in
     record { answer = r.0; buffer = c.block_into.ensures ∙ r.1 }

@@ -1,10 +1,10 @@
 use Rattle.block.specs.Block.{size_in}
 use Rattle.block.proofs.size_in.Goals as goal
 
-pub returns-in-Block : goal.returns-in-Block
+pub returns-in-Ok : goal.returns-in-Ok
 unfolding size_in
-returns-in-Block c = rw c.in-Block.is
+returns-in-Ok c = rw c.in-Ok.is
 
-pub returns-in-Refused : goal.returns-in-Refused
+pub returns-in-Err : goal.returns-in-Err
 unfolding size_in
-returns-in-Refused c = rw c.in-Refused.is
+returns-in-Err c = rw c.in-Err.is

@@ -4,8 +4,6 @@ use Prim.Native.Nat.{ℕ}
 use mathlib.Core.List.{List}
 use native.Mathlib.Omega.{arith}
 use lib.ListN.{length}
-use Rattle.keys.specs.declared.Seat.{Seat}
-use Rattle.keys.specs.declared.Seat.TheVariants.{At}
 use Rattle.columns.specs.declared.Column.{Column}
 use Rattle.columns.specs.Columns.{column_at, seat_of}
 use Rattle.columns.proofs.SeatLaws.{seat_inside}
@@ -14,9 +12,10 @@ use Rattle.cells.specs.Cells.{cell_at}
 use Rattle.cells.proofs.RowLaws.{row_length}
 use Rattle.cells.proofs.CellLaws.{past_the_end, unknown_tag, known_tag}
 use Rattle.cells.proofs.cell_in.Goals as goal
+use Rattle.std.specs.Prelude.{Option, Some}
 
 -- the seat that was found is that of the column with the tag
-sought : (block table : List ℕ) (tag : ℕ) (seat : Seat) (i : ℕ) → table ≡ table_record block → seat ≡ seat_of table tag → seat ≡ At i → At i ≡ seat_of (table_record block) tag
+sought : (block table : List ℕ) (tag : ℕ) (seat : Option ℕ) (i : ℕ) → table ≡ table_record block → seat ≡ seat_of table tag → seat ≡ Some i → Some i ≡ seat_of (table_record block) tag
 sought block table tag seat i told found is = sym is ∙ found ∙ ap (λ (t : List ℕ). seat_of t tag) told
 
 pub returns-then-row_count-i : goal.returns-then-row_count-i
@@ -35,7 +34,7 @@ pub column_at-column-requires : goal.column_at-column-requires
 column_at-column-requires c =
     let a = c.args in
     let pre = c.requires in
-    let there = seat_inside _ pre.shape _ _ (sought a.block.now _ a.tag _ c.in-At.index c.record_of-table.ensures c.seat_of-seat.ensures c.in-At.is) in
+    let there = seat_inside _ pre.shape _ _ (sought a.block.now _ a.tag _ c.in-Some.index c.record_of-table.ensures c.seat_of-seat.ensures c.in-Some.is) in
     (omega (arith, there, pre.shape.whole, ap length c.record_of-table.ensures), omega (arith, there, pre.shape.whole, record_short _ pre))
 
 pub cell_at-requires : goal.cell_at-requires
@@ -43,17 +42,17 @@ cell_at-requires c =
     let a = c.args in
     let pre = c.requires in
     let told = c.record_of-table.ensures in
-    let column = c.column_at-column.ensures.0 ∙ ap (λ (t : List ℕ). column_at t c.in-At.index) told in
+    let column = c.column_at-column.ensures.0 ∙ ap (λ (t : List ℕ). column_at t c.in-Some.index) told in
     let short = rw column at c.column_at-column.ensures.3 in
-    let there = seat_inside _ pre.shape _ _ (sought a.block.now _ a.tag _ c.in-At.index c.record_of-table.ensures c.seat_of-seat.ensures c.in-At.is) in
+    let there = seat_inside _ pre.shape _ _ (sought a.block.now _ a.tag _ c.in-Some.index c.record_of-table.ensures c.seat_of-seat.ensures c.in-Some.is) in
     rw (told, column) (pre.heap, pre.shape, pre.columns.each _ there, ap length c.row_at.ensures ∙ row_length _ _ _ (omega (arith, c.row_count.ensures)), short)
 
 pub returns : goal.returns
 returns c =
     let a = c.args in
     let told = c.record_of-table.ensures in
-    let column = c.column_at-column.ensures.0 ∙ ap (λ (t : List ℕ). column_at t c.in-At.index) told in
+    let column = c.column_at-column.ensures.0 ∙ ap (λ (t : List ℕ). column_at t c.in-Some.index) told in
     c.cell_at.ensures
     ∙ ap (λ (t : List ℕ). cell_at a.block.now t c.row_at.result.now c.column_at-column.result) told
     ∙ ap₂ (λ (r : List ℕ) (k : Column). cell_at a.block.now (table_record a.block.now) r k) c.row_at.ensures column
-    ∙ sym (known_tag a.block.now (table_record a.block.now) a.bytes.now a.row a.tag _ (omega (arith, c.row_count.ensures)) (sought a.block.now _ a.tag _ c.in-At.index c.record_of-table.ensures c.seat_of-seat.ensures c.in-At.is))
+    ∙ sym (known_tag a.block.now (table_record a.block.now) a.bytes.now a.row a.tag _ (omega (arith, c.row_count.ensures)) (sought a.block.now _ a.tag _ c.in-Some.index c.record_of-table.ensures c.seat_of-seat.ensures c.in-Some.is))

@@ -7,17 +7,17 @@ use Rattle.cells.proofs.HeldLaws.{rows_exactly, cell_refused, cell_on}
 use Rattle.cells.proofs.cell_of.Goals as goal
 
 pub row_bytes-requires : goal.row_bytes-requires
-row_bytes-requires c = (rows_exactly _ _).0 (sym c.test_rows-verdict.ensures ∙ c.in-Accepted.is)
+row_bytes-requires c = (rows_exactly _ _).0 (sym c.test_rows-verdict.ensures ∙ c.in-Ok.is)
 
 pub cell_in-requires : goal.cell_in-requires
-cell_in-requires c = ((rows_exactly _ _).0 (sym c.test_rows-verdict.ensures ∙ c.in-Accepted.is)).0
+cell_in-requires c = ((rows_exactly _ _).0 (sym c.test_rows-verdict.ensures ∙ c.in-Ok.is)).0
 
-pub returns-in-Refused : goal.returns-in-Refused
-returns-in-Refused c = sym (cell_refused _ _ _ _ _ (sym c.test_rows-verdict.ensures ∙ c.in-Refused.is))
+pub returns-in-Err : goal.returns-in-Err
+returns-in-Err c = sym (cell_refused _ _ _ _ _ (sym c.test_rows-verdict.ensures ∙ c.in-Err.is))
 
-pub returns-in-Accepted : goal.returns-in-Accepted
-returns-in-Accepted c =
+pub returns-in-Ok : goal.returns-in-Ok
+returns-in-Ok c =
     let a = c.args in
     c.cell_in.ensures
     ∙ ap (λ (bytes : List ℕ). cell_in a.block.now (table_record a.block.now) bytes a.row a.tag) c.row_bytes.ensures
-    ∙ sym (cell_on _ _ _ _ (sym c.test_rows-verdict.ensures ∙ c.in-Accepted.is))
+    ∙ sym (cell_on _ _ _ _ (sym c.test_rows-verdict.ensures ∙ c.in-Ok.is))

@@ -2,12 +2,12 @@ use mathlib.Core.Path.{sym, ap, ◌∙◌}
 use lib.Dec.{eqb}
 use Rattle.laws.proofs.Tests.{fails, holds}
 use Rattle.refusal.specs.declared.Fault.TheVariants.{Encoding}
-use Rattle.refusal.specs.declared.Verdict.TheVariants.{Refused}
 use Rattle.refusal.specs.Order.{◌at◌, none, both, here, later}
 use Rattle.refusal.proofs.OrderLaws.{accepted_exactly, refused_exactly}
 use Rattle.edition.specs.declared.HeaderPlaces.{HeaderPlaces}
 use Rattle.header.specs.Header.{header_sum_fits, seal_rules}
 use Rattle.header.proofs.check_seals.Goals as goal
+use Rattle.std.specs.Prelude.{Err}
 
 pub returns-then-not-sum_stands : goal.returns-then-not-sum_stands
 unfolding seal_rules header_sum_fits
@@ -22,7 +22,7 @@ returns-then-not-whole_fits c =
 pub returns-then-not-sentinel_fits : goal.returns-then-not-sentinel_fits
 unfolding seal_rules header_sum_fits
 returns-then-not-sentinel_fits c =
-    c.refused_at-then-not-sentinel_fits.ensures ∙ ap (λ (p : HeaderPlaces). Refused (Encoding at p.sentinel)) c.places_of-places.ensures
+    c.refused_at-then-not-sentinel_fits.ensures ∙ ap (λ (p : HeaderPlaces). Err (Encoding at p.sentinel)) c.places_of-places.ensures
     ∙ sym ((refused_exactly _ _).1 (later (holds _ _ (c.sum_stands.ensures ∙ ap (eqb _) c.partial_sum-partial.ensures) c.if-not-sum_stands.false) (later (holds _ _ c.whole_fits.ensures c.if-not-whole_fits.false) (here (fails _ _ c.sentinel_fits.ensures c.if-not-sentinel_fits.true)))))
 
 pub returns : goal.returns

@@ -6,7 +6,7 @@ pub returns-in_default : goal.returns-in_default
 returns-in_default c = sym (item_empty _ _ _ (sym c.test_item-verdict.ensures ∙ c.in_default.is))
 
 pub part_of-requires : goal.part_of-requires
-part_of-requires c = (item_exactly _ _).0 (sym c.test_item-verdict.ensures ∙ c.in-Accepted.is)
+part_of-requires c = (item_exactly _ _).0 (sym c.test_item-verdict.ensures ∙ c.in-Ok.is)
 
 pub returns : goal.returns
-returns c = c.part_of.ensures ∙ sym (item_taken _ _ (sym c.test_item-verdict.ensures ∙ c.in-Accepted.is))
+returns c = c.part_of.ensures ∙ sym (item_taken _ _ (sym c.test_item-verdict.ensures ∙ c.in-Ok.is))

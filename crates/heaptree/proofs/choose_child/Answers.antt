@@ -24,11 +24,11 @@ child_at-requires c =
     let a = c.args in
     let part = c.part_of-records in
     let p = c.requires in
-    (rw (part.ensures, p.3) (records_hold (index_shape a.tree) (item_part a.block.now a.branch.item) (omega arith) p.2.1), omega arith, child_inside a.tree a.block.now a.branch a.key a.count p.3 part.result.now part.ensures _ (sym c.in-At.is ∙ c.last_at_most-seat.ensures))
+    (rw (part.ensures, p.3) (records_hold (index_shape a.tree) (item_part a.block.now a.branch.item) (omega arith) p.2.1), omega arith, child_inside a.tree a.block.now a.branch a.key a.count p.3 part.result.now part.ensures _ (sym c.in-Some.is ∙ c.last_at_most-seat.ensures))
 
 pub returns : goal.returns
 returns c =
     let a = c.args in
     let part = c.part_of-records in
     λ levels. ap (λ (b : Branch). b ∷ []) c.child_at.ensures
-    ∙ child_chosen a.tree a.block.now a.branch a.key a.count c.requires.3 part.result.now part.ensures _ (sym c.in-At.is ∙ c.last_at_most-seat.ensures) levels
+    ∙ child_chosen a.tree a.block.now a.branch a.key a.count c.requires.3 part.result.now part.ensures _ (sym c.in-Some.is ∙ c.last_at_most-seat.ensures) levels

@@ -39,12 +39,6 @@ key_of-key-requires c =
 pub returns-then-key-last : goal.returns-then-key-last
 returns-then-key-last c = λ e. not_both false e refl
 
-pub overflow_add-i : goal.overflow_add-i
-overflow_add-i c = omega arith
-
-pub loop-i-smaller : goal.loop-i-smaller
-loop-i-smaller c = omega arith
-
 pub loop-i-preserved : goal.loop-i-preserved
 loop-i-preserved c =
     let a = c.args in

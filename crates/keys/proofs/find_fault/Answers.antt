@@ -50,12 +50,6 @@ returns-then-not-inside c =
     let k = c.key_at-key in
     sym (l.invariant.2 ∙ next_outside a.range (keys_from a.shape a.count a.bytes.now l.i) (keys_from a.shape a.count a.bytes.now (l.i + 1)) k.result l.i l.last (keys_read a.shape a.count a.bytes.now l.i k.result k.ensures (omega arith)) (lt-ltb l.last k.result c.if-not-above.false) (fails _ _ c.in_range-inside.ensures c.if-not-inside.true))
 
-pub overflow_add-i : goal.overflow_add-i
-overflow_add-i c = omega arith
-
-pub loop-i-smaller : goal.loop-i-smaller
-loop-i-smaller c = omega arith
-
 pub loop-i-preserved : goal.loop-i-preserved
 loop-i-preserved c =
     let a = c.args in

@@ -17,20 +17,14 @@ key_of-requires c =
     let pre = c.requires in
     (holds_fewer a.shape a.count (c.loop-i.i + 1) a.bytes.now (omega arith) pre.0, pre.1)
 
-pub overflow_add-i : goal.overflow_add-i
-overflow_add-i c = omega arith
-
-pub loop-i-smaller : goal.loop-i-smaller
-loop-i-smaller c = omega arith
-
 pub loop-i-preserved : goal.loop-i-preserved
 loop-i-preserved c =
     let a = c.args in
     let l = c.loop-i in
     (omega arith, l.invariant.1 ∙ first_on a.shape a.count a.bytes.now a.key a.sought l.i (omega arith) (ap (meets a.sought a.key) (sym c.key_of.ensures) ∙ sym c.meets.ensures ∙ c.if-meets.false))
 
-pub returns-then-i-count : goal.returns-then-i-count
-returns-then-i-count c =
+pub returns : goal.returns
+returns c =
     let a = c.args in
     let l = c.loop-i in
     sym (l.invariant.1 ∙ first_ends a.shape a.count a.bytes.now a.key a.sought l.i (omega arith))

@@ -10,8 +10,8 @@ returns-in_default c = rw c.in_default.is
 
 pub returns-then-end-key : goal.returns-then-end-key
 unfolding is_before
-returns-then-end-key c = rw c.in-Before.is (sym (le-ltb c.args.key c.in-Before.end (omega arith)))
+returns-then-end-key c = rw c.in-Some.is (sym (le-ltb c.args.key c.in-Some.end (omega arith)))
 
 pub returns : goal.returns
 unfolding is_before
-returns c = rw c.in-Before.is (sym (lt-ltb c.args.key c.in-Before.end (omega arith)))
+returns c = rw c.in-Some.is (sym (lt-ltb c.args.key c.in-Some.end (omega arith)))

@@ -10,7 +10,6 @@ use Rattle.edition.specs.declared.Edition.{Edition}
 use Rattle.tree.specs.declared.Listed.{Listed}
 use Rattle.tree.proofs.Ways.{leads_nowhere}
 use Rattle.block.specs.Block.{checked_block, block_bytes}
-use Rattle.block.specs.declared.Checked.TheVariants.{Block}
 use Rattle.node.specs.Content.{number_at, numbers_from}
 use Rattle.node.specs.Steps.{IsListed, AllListed, bytes_at}
 use Rattle.node.proofs.Numbers.{rest, rest_all, rest_at, joined_rest, joined_none, number_inside}
@@ -18,9 +17,10 @@ use Rattle.node.proofs.Kids.{bytes_here}
 use Rattle.laws.proofs.Running.{room_left, left_on, stands_on, stands_whole}
 use Rattle.block.proofs.BlockLaws.{checked_inside, checked_large, bytes_length}
 use Rattle.node.proofs.gather.Goals as goal
+use Rattle.std.specs.Prelude.{Ok}
 
 -- the block of the i-th number: its bytes are the next to come, and there is room for them
-module _ (e : Edition) (image root : List ℕ) (count i n : ℕ) (b : Listed) (is : checked_block e image (number_at e.tree root i) ≡ Block b) (inside : i < count)
+module _ (e : Edition) (image root : List ℕ) (count i n : ℕ) (b : Listed) (is : checked_block e image (number_at e.tree root i) ≡ Ok b) (inside : i < count)
     (left : drop n (joined (bytes_at e image) (numbers_from e.tree root 0 count)) ≡ joined (bytes_at e image) (rest e.tree root count i)) where
   next_left : drop n (joined (bytes_at e image) (numbers_from e.tree root 0 count)) ≡ block_bytes image b ++ joined (bytes_at e image) (rest e.tree root count (i + 1))
   next_left =

@@ -43,7 +43,7 @@ pub overflow_add-sum : goal.overflow_add-sum
 overflow_add-sum c =
     let a = c.args in
     let l = c.loop-i in
-    omega (arith, c.requires.0.trailer.most, checked_size a.e a.image.now _ _ (sym (ap (checked_block a.e a.image.now) c.number_at-number.ensures) ∙ sym c.check_block_at-checked.ensures ∙ c.in-Block.is))
+    omega (arith, c.requires.0.trailer.most, checked_size a.e a.image.now _ _ (sym (ap (checked_block a.e a.image.now) c.number_at-number.ensures) ∙ sym c.check_block_at-checked.ensures ∙ c.in-Ok.is))
 
 pub overflow_add-i : goal.overflow_add-i
 overflow_add-i c = omega arith
@@ -57,10 +57,10 @@ loop-i-preserved c =
     let l = c.loop-i in
     let more = c.loop-i-test.true in (
       omega (arith, more),
-      omega (arith, c.requires.0.trailer.most, checked_size a.e a.image.now _ _ (sym (ap (checked_block a.e a.image.now) c.number_at-number.ensures) ∙ sym c.check_block_at-checked.ensures ∙ c.in-Block.is)),
+      omega (arith, c.requires.0.trailer.most, checked_size a.e a.image.now _ _ (sym (ap (checked_block a.e a.image.now) c.number_at-number.ensures) ∙ sym c.check_block_at-checked.ensures ∙ c.in-Ok.is)),
       l.invariant.2
           ∙ ap (λ (ns : List ℕ). add_to l.sum (measured_in (kids_of a.e a.image.now ns))) (rest_at a.e.tree a.root.now a.count l.i more)
-          ∙ measure_on a.e a.image.now (number_at a.e.tree a.root.now l.i) (rest a.e.tree a.root.now a.count (l.i + 1)) l.sum _ (sym (ap (checked_block a.e a.image.now) c.number_at-number.ensures) ∙ sym c.check_block_at-checked.ensures ∙ c.in-Block.is),
+          ∙ measure_on a.e a.image.now (number_at a.e.tree a.root.now l.i) (rest a.e.tree a.root.now a.count (l.i + 1)) l.sum _ (sym (ap (checked_block a.e a.image.now) c.number_at-number.ensures) ∙ sym c.check_block_at-checked.ensures ∙ c.in-Ok.is),
       l.invariant.3,
       c.way_to-way.ensures.1,
     )

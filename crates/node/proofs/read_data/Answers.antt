@@ -17,11 +17,11 @@ returns-in_default c =
     record { answer = c.refused_data.ensures ∙ refused_read_is _ _ told ∙ o.0; buffer = o.1 }
 
 pub read_listed-requires : goal.read_listed-requires
-read_listed-requires c = (c.requires.0, checked_large _ _ _ _ (sym c.check_block_in-checked.ensures ∙ c.in-Block.is), checked_inside _ _ _ _ (sym c.check_block_in-checked.ensures ∙ c.in-Block.is), c.requires.1)
+read_listed-requires c = (c.requires.0, checked_large _ _ _ _ (sym c.check_block_in-checked.ensures ∙ c.in-Ok.is), checked_inside _ _ _ _ (sym c.check_block_in-checked.ensures ∙ c.in-Ok.is), c.requires.1)
 
 pub returns : goal.returns
 returns c =
     let a = c.args in
     let told = c.read_listed.ensures in
-    let o = outcome_of _ _ a.out.now _ _ (data_block a.e a.image.now a.number _ (λ e. c.if-cleared-eq0.false (c.cleared.ensures ∙ e)) (sym c.check_block_in-checked.ensures ∙ c.in-Block.is)) (told.answer, told.buffer) in
+    let o = outcome_of _ _ a.out.now _ _ (data_block a.e a.image.now a.number _ (λ e. c.if-cleared-eq0.false (c.cleared.ensures ∙ e)) (sym c.check_block_in-checked.ensures ∙ c.in-Ok.is)) (told.answer, told.buffer) in
     record { answer = o.0; buffer = o.1 }

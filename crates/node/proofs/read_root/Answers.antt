@@ -46,7 +46,7 @@ pub returns-then-sum-field4 : goal.returns-then-sum-field4
 unfolding count_in
 returns-then-sum-field4 c =
     let a = c.args in
-    let p = passed a.e a.image.now a.root.now c.field2-count.result _ c.field2-count.ensures c.measure-measured.ensures _ c.in-Sum.is in
+    let p = passed a.e a.image.now a.root.now c.field2-count.result _ c.field2-count.ensures c.measure-measured.ensures _ c.in-Ok.is in
     let o = outcome_of _ _ a.out.now _ _ (tree_other_sum a.e a.image.now a.offset a.root.now (holds _ _ c.shape_fits.ensures c.if-not-shape_fits.false) p.kids p.are (λ e. c.if-sum-field4.true (sym p.sum ∙ e ∙ sym c.field4.ensures))) (refused_outcome _ a.out.now) in
     record { answer = c.no_data_tree-then-sum-field4.ensures ∙ o.0; buffer = o.1 }
 
@@ -54,7 +54,7 @@ pub returns-then-out-sum : goal.returns-then-out-sum
 unfolding count_in
 returns-then-out-sum c =
     let a = c.args in
-    let p = passed a.e a.image.now a.root.now c.field2-count.result _ c.field2-count.ensures c.measure-measured.ensures _ c.in-Sum.is in
+    let p = passed a.e a.image.now a.root.now c.field2-count.result _ c.field2-count.ensures c.measure-measured.ensures _ c.in-Ok.is in
     let o = outcome_of _ _ a.out.now _ _ (tree_bytes a.e a.image.now a.offset a.root.now (holds _ _ c.shape_fits.ensures c.if-not-shape_fits.false) p.kids p.are (p.sum ∙ c.if-sum-field4.false ∙ c.field4.ensures)) (short_outcome _ a.out.now _ (sym p.long) (omega arith)) in
     record { answer = c.short_buffer.ensures ∙ o.0; buffer = o.1 }
 
@@ -63,7 +63,7 @@ unfolding count_in
 gather-requires c =
     let a = c.args in
     let s = shape_of a.e.tree a.root.now (holds _ _ c.shape_fits.ensures c.if-not-shape_fits.false) in
-    let p = passed a.e a.image.now a.root.now c.field2-count.result _ c.field2-count.ensures c.measure-measured.ensures _ c.in-Sum.is in
+    let p = passed a.e a.image.now a.root.now c.field2-count.result _ c.field2-count.ensures c.measure-measured.ensures _ c.in-Ok.is in
     let f = c.field2-count.ensures in
     record { fair_edition = (c.requires.0, omega (arith, s.size, same_whole a.e.tree.word f), omega arith, p.listed, c.requires.1); count_in_bounds = omega (arith, ap length p.joins, p.long) }
 
@@ -71,6 +71,6 @@ pub returns : goal.returns
 unfolding count_in
 returns c =
     let a = c.args in
-    let p = passed a.e a.image.now a.root.now c.field2-count.result _ c.field2-count.ensures c.measure-measured.ensures _ c.in-Sum.is in
+    let p = passed a.e a.image.now a.root.now c.field2-count.result _ c.field2-count.ensures c.measure-measured.ensures _ c.in-Ok.is in
     let o = outcome_of _ _ a.out.now _ _ (tree_bytes a.e a.image.now a.offset a.root.now (holds _ _ c.shape_fits.ensures c.if-not-shape_fits.false) p.kids p.are (p.sum ∙ c.if-sum-field4.false ∙ c.field4.ensures)) (done_outcome _ a.out.now _ (sym p.long) (omega arith)) in
     record { answer = o.0; buffer = c.gather.ensures ∙ ap (λ (s : List ℕ). fronted s a.out.now) p.joins ∙ o.1 }

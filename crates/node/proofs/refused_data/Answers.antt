@@ -1,10 +1,10 @@
 use Rattle.node.specs.Steps.{refused_read}
 use Rattle.node.proofs.refused_data.Goals as goal
 
-pub returns-in-Block : goal.returns-in-Block
+pub returns-in-Ok : goal.returns-in-Ok
 unfolding refused_read
-returns-in-Block c = rw c.in-Block.is
+returns-in-Ok c = rw c.in-Ok.is
 
-pub returns-in-Refused : goal.returns-in-Refused
+pub returns-in-Err : goal.returns-in-Err
 unfolding refused_read
-returns-in-Refused c = rw c.in-Refused.is
+returns-in-Err c = rw c.in-Err.is

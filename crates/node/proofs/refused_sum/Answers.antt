@@ -1,10 +1,10 @@
 use Rattle.node.specs.Steps.{refused_sum}
 use Rattle.node.proofs.refused_sum.Goals as goal
 
-pub returns-in-Sum : goal.returns-in-Sum
+pub returns-in-Ok : goal.returns-in-Ok
 unfolding refused_sum
-returns-in-Sum c = rw c.in-Sum.is
+returns-in-Ok c = rw c.in-Ok.is
 
-pub returns-in-Refused : goal.returns-in-Refused
+pub returns-in-Err : goal.returns-in-Err
 unfolding refused_sum
-returns-in-Refused c = rw c.in-Refused.is
+returns-in-Err c = rw c.in-Err.is

@@ -10,11 +10,14 @@ use Rattle.laws.proofs.Fronts.{behind}
 use Rattle.keys.specs.Search.{joined}
 use Rattle.keys.proofs.Pieces.{pieces_length, pieces_on}
 use Rattle.tree.proofs.Ways.{leads_nowhere}
-use Rattle.tree.specs.declared.FoundNode.{FoundNode}
 use Rattle.edition.specs.declared.Layout.{Layout}
 use Rattle.nodelist.specs.Places.{node_words, place_of, places_of}
 use Rattle.nodelist.proofs.Words.{place_length}
 use Rattle.nodelist.proofs.fill.Goals as goal
+use Rattle.std.specs.Prelude.{Result}
+use Rattle.refusal.specs.declared.Refusal.{Refusal}
+use Rattle.tree.specs.declared.Found.{Found}
+use Rattle.tree.specs.declared.Node.{Node}
 
 -- as many words as the places so far take
 so_far : (L : Layout) (image nodes : List ℕ) (i : ℕ) → i ≤ length nodes → 9 * i ≡ length (places_of L image (take i nodes))
@@ -77,7 +80,7 @@ loop-i-preserved c =
       same_len_mid n (length l.places - n) l.places e.new.words e.auto.words ∙ l.invariant.1,
       l.invariant.2,
       c.way_to-way.ensures.1,
-      ap (λ (x : List ℕ). take n l.places ++ (x ++ drop (length l.places - n) (drop n l.places))) (e.ensures ∙ ap (λ (x : FoundNode). fronted (node_words x) room) c.node_at.ensures)
+      ap (λ (x : List ℕ). take n l.places ++ (x ++ drop (length l.places - n) (drop n l.places))) (e.ensures ∙ ap (λ (x : Result (Found Node) Refusal). fronted (node_words x) room) c.node_at.ensures)
           ∙ behind a.places.now (places_of a.l a.image.now (take l.i a.nodes.now)) (place_of a.l a.image.now node) l.places n l.invariant.4 (so_far a.l a.image.now a.nodes.now l.i l.invariant.0)
           ∙ ap (λ (x : List ℕ). fronted x a.places.now) (sym (pieces_on (place_of a.l a.image.now) 9 (place_length a.l a.image.now) a.nodes.now l.i (omega arith))),
     )

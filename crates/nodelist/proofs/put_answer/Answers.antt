@@ -10,6 +10,6 @@ pub returns-in-Absent : goal.returns-in-Absent
 unfolding node_words
 returns-in-Absent c = c.put_words-in-Absent.ensures ∙ rw c.in-Absent.is
 
-pub returns-in-Refused : goal.returns-in-Refused
+pub returns-in-Err : goal.returns-in-Err
 unfolding node_words
-returns-in-Refused c = c.put_words-in-Refused.ensures ∙ rw (c.in-Refused.is, c.number_of-number.ensures)
+returns-in-Err c = c.put_words-in-Err.ensures ∙ rw (c.in-Err.is, c.number_of-number.ensures)

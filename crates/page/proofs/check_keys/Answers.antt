@@ -1,7 +1,6 @@
 use Prim.Native.Nat.{ℕ}
 use mathlib.Core.Path.{◌≡◌, sym, ap, ◌∙◌}
 use mathlib.Core.List.{List}
-use Rattle.keys.specs.declared.Order.{Order}
 use Rattle.keys.specs.declared.Range.{Range}
 use Rattle.keys.specs.declared.Shape.{Shape}
 use Rattle.keys.specs.Records.{keys_of}
@@ -12,9 +11,11 @@ use Rattle.page.specs.Page.{count_of, level_of, keys_in}
 use Rattle.page.proofs.KeyLaws.{told, keys_told}
 use Rattle.page.proofs.PageLaws.{entries_held, keys_of_entries}
 use Rattle.page.proofs.check_keys.Goals as goal
+use Rattle.std.specs.Prelude.{Result, ⊤}
+use Rattle.keys.specs.declared.Disorder.{Disorder}
 
 -- what is found of the page's keys, by the shape and the count that were read
-found : (l : Layout) (range : Range) (g : List ℕ) (s : Shape) (count : ℕ) (r : Order) → r ≡ ordered range (keys_of s count g) → s ≡ shape l (level_of l g) → count ≡ count_of l g
+found : (l : Layout) (range : Range) (g : List ℕ) (s : Shape) (count : ℕ) (r : Result ⊤ Disorder) → r ≡ ordered range (keys_of s count g) → s ≡ shape l (level_of l g) → count ≡ count_of l g
     → r ≡ ordered range (keys_in l g)
 unfolding keys_in
 found l range g s count r e h k = e ∙ ap (ordered range) (rw (h, k) (keys_of_entries l g))

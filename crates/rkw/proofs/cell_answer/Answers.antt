@@ -28,8 +28,8 @@ pub returns-in-Absent : goal.returns-in-Absent
 unfolding cell_answer cell_words
 returns-in-Absent c = c.no_cell.ensures ∙ ap cell_answer (sym c.in-Absent.is)
 
-pub returns-in-Refused : goal.returns-in-Refused
+pub returns-in-Err : goal.returns-in-Err
 unfolding cell_answer cell_words
-returns-in-Refused c =
-    let r = c.in-Refused.r in
-    c.no_cell-in-Refused.ensures ∙ ap (λ (x : ℕ). no_cell x r.place r.more) c.number_in.ensures ∙ ap cell_answer (sym c.in-Refused.is)
+returns-in-Err c =
+    let r = c.in-Err.r in
+    c.no_cell-in-Err.ensures ∙ ap (λ (x : ℕ). no_cell x r.place r.more) c.number_in.ensures ∙ ap cell_answer (sym c.in-Err.is)

@@ -10,6 +10,6 @@ pub returns-in-Absent : goal.returns-in-Absent
 unfolding cells_answer
 returns-in-Absent c = ap cells_answer (sym c.in-Absent.is)
 
-pub returns-in-Refused : goal.returns-in-Refused
+pub returns-in-Err : goal.returns-in-Err
 unfolding cells_answer
-returns-in-Refused c = rw (c.number_in.ensures, c.in-Refused.is)
+returns-in-Err c = rw (c.number_in.ensures, c.in-Err.is)

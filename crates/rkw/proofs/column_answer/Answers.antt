@@ -11,8 +11,8 @@ pub returns-in-Absent : goal.returns-in-Absent
 unfolding column_answer
 returns-in-Absent c = c.no_column.ensures ∙ ap column_answer (sym c.in-Absent.is)
 
-pub returns-in-Refused : goal.returns-in-Refused
+pub returns-in-Err : goal.returns-in-Err
 unfolding column_answer
-returns-in-Refused c =
-    let r = c.in-Refused.r in
-    c.no_column-in-Refused.ensures ∙ ap (λ (x : ℕ). no_column x r.place r.more) c.number_in.ensures ∙ ap column_answer (sym c.in-Refused.is)
+returns-in-Err c =
+    let r = c.in-Err.r in
+    c.no_column-in-Err.ensures ∙ ap (λ (x : ℕ). no_column x r.place r.more) c.number_in.ensures ∙ ap column_answer (sym c.in-Err.is)

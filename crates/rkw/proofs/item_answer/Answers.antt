@@ -6,6 +6,6 @@ pub returns-in-Within : goal.returns-in-Within
 unfolding item_answer
 returns-in-Within c = ap item_answer (sym c.in-Within.is)
 
-pub returns-in-Refused : goal.returns-in-Refused
+pub returns-in-Err : goal.returns-in-Err
 unfolding item_answer
-returns-in-Refused c = rw (c.number_in.ensures, c.in-Refused.is)
+returns-in-Err c = rw (c.number_in.ensures, c.in-Err.is)

@@ -12,8 +12,8 @@ pub returns-in-Absent : goal.returns-in-Absent
 unfolding node_answer node_words
 returns-in-Absent c = c.no_node.ensures ∙ ap node_answer (sym c.in-Absent.is)
 
-pub returns-in-Refused : goal.returns-in-Refused
+pub returns-in-Err : goal.returns-in-Err
 unfolding node_answer node_words
-returns-in-Refused c =
-    let r = c.in-Refused.r in
-    c.no_node-in-Refused.ensures ∙ ap (λ (x : ℕ). no_node x r.place r.more 0) c.number_in.ensures ∙ ap node_answer (sym c.in-Refused.is)
+returns-in-Err c =
+    let r = c.in-Err.r in
+    c.no_node-in-Err.ensures ∙ ap (λ (x : ℕ). no_node x r.place r.more 0) c.number_in.ensures ∙ ap node_answer (sym c.in-Err.is)

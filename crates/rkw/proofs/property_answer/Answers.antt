@@ -23,8 +23,8 @@ pub returns-in-Absent : goal.returns-in-Absent
 unfolding property_answer
 returns-in-Absent c = c.no_property.ensures ∙ ap property_answer (sym c.in-Absent.is)
 
-pub returns-in-Refused : goal.returns-in-Refused
+pub returns-in-Err : goal.returns-in-Err
 unfolding property_answer
-returns-in-Refused c =
-    let r = c.in-Refused.r in
-    c.no_property-in-Refused.ensures ∙ ap (λ (x : ℕ). no_property x r.place r.more) c.number_in.ensures ∙ ap property_answer (sym c.in-Refused.is)
+returns-in-Err c =
+    let r = c.in-Err.r in
+    c.no_property-in-Err.ensures ∙ ap (λ (x : ℕ). no_property x r.place r.more) c.number_in.ensures ∙ ap property_answer (sym c.in-Err.is)

@@ -10,6 +10,6 @@ pub returns-in-Absent : goal.returns-in-Absent
 unfolding row_answer
 returns-in-Absent c = ap row_answer (sym c.in-Absent.is)
 
-pub returns-in-Refused : goal.returns-in-Refused
+pub returns-in-Err : goal.returns-in-Err
 unfolding row_answer
-returns-in-Refused c = rw (c.number_in.ensures, c.in-Refused.is)
+returns-in-Err c = rw (c.number_in.ensures, c.in-Err.is)

@@ -2,10 +2,10 @@ use mathlib.Core.Path.{sym, ap}
 use Rattle.rkw.specs.Answers.{verdict_answer}
 use Rattle.rkw.proofs.verdict_answer.Goals as goal
 
-pub returns-in-Accepted : goal.returns-in-Accepted
+pub returns-in-Ok : goal.returns-in-Ok
 unfolding verdict_answer
-returns-in-Accepted c = ap verdict_answer (sym c.in-Accepted.is)
+returns-in-Ok c = ap verdict_answer (sym c.in-Ok.is)
 
-pub returns-in-Refused : goal.returns-in-Refused
+pub returns-in-Err : goal.returns-in-Err
 unfolding verdict_answer
-returns-in-Refused c = rw (c.number_in.ensures, c.in-Refused.is)
+returns-in-Err c = rw (c.number_in.ensures, c.in-Err.is)

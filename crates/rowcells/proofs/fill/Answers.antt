@@ -15,7 +15,6 @@ use Rattle.columns.specs.Columns.{column_at, tags}
 use Rattle.columns.proofs.SeatLaws.{tags_length}
 use Rattle.table.specs.Context.{table_record, TableSound}
 use Rattle.table.proofs.ContextLaws.{record_long, record_short}
-use Rattle.cells.specs.declared.Cell.{Cell}
 use Rattle.cells.specs.Rows.{row_at}
 use Rattle.cells.specs.Cells.{cell_at}
 use Rattle.cells.proofs.HeldLaws.{rows_exactly}
@@ -24,6 +23,9 @@ use Rattle.cells.proofs.WithinLaws.{cell_own}
 use Rattle.rowcells.specs.RowCells.{cell_words, place_of}
 use Rattle.rowcells.proofs.Words.{place_length}
 use Rattle.rowcells.proofs.fill.Goals as goal
+use Rattle.std.specs.Prelude.{Option, Result}
+use Rattle.refusal.specs.declared.Refusal.{Refusal}
+use Rattle.cells.specs.declared.Cell.{Cell}
 
 -- as many words as the places so far take
 so_far : (block rows : List ℕ) (row i : ℕ) → TableSound block → i ≤ column_count (table_record block) → 6 * i ≡ length (joined (place_of block rows row) (take i (tags (table_record block))))
@@ -123,7 +125,7 @@ loop-i-preserved c =
       inv.5,
       inv.6,
       inv.7,
-      ap (λ (x : List ℕ). take n l.places ++ (x ++ drop (length l.places - n) (drop n l.places))) (e.ensures ∙ ap (λ (x : Cell). fronted (cell_words x) room) cell)
+      ap (λ (x : List ℕ). take n l.places ++ (x ++ drop (length l.places - n) (drop n l.places))) (e.ensures ∙ ap (λ (x : Result (Option Cell) Refusal). fronted (cell_words x) room) cell)
           ∙ behind a.places.now (joined (place_of a.block.now a.rows.now a.row) (take l.i (tags T))) (place_of a.block.now a.rows.now a.row tag) l.places n inv.8 (so_far a.block.now a.rows.now a.row l.i sound inv.0)
           ∙ ap (λ (x : List ℕ). fronted x a.places.now) (sym (pieces_on (place_of a.block.now a.rows.now a.row) 6 (place_length a.block.now a.rows.now a.row) (tags T) l.i (rw (tags_length T sound.shape) there))),
     )

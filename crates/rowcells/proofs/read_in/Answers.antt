@@ -8,9 +8,9 @@ use Rattle.table.specs.Context.{table_record}
 use Rattle.table.proofs.ContextLaws.{record_long}
 use Rattle.cells.specs.Rows.{row_count}
 use Rattle.cells.proofs.HeldLaws.{rows_exactly}
-use Rattle.rowcells.specs.declared.RowRead.TheVariants.{Cells, Refused}
 use Rattle.rowcells.proofs.ReadLaws.{read_absent, area_absent, read_short, area_kept, read_cells, area_filled}
 use Rattle.rowcells.proofs.read_in.Goals as goal
+use Rattle.std.specs.Prelude.{Some, Ok, Err}
 
 pub row_bytes-requires : goal.row_bytes-requires
 row_bytes-requires c = (rows_exactly _ _).0 c.requires
@@ -36,7 +36,7 @@ returns-then-places-count c =
     let a = c.args in
     let held = c.requires in
     let told = c.row_count.ensures ∙ ap (row_count (table_record a.block.now)) c.row_bytes.ensures in
-    let many = c.column_count-count.ensures.0 ∙ ap column_count c.record_of.ensures in record { answer = c.short_area.ensures ∙ ap (λ (n : ℕ). Refused (ShortBuffer needing n)) many ∙ sym (read_short _ _ _ held (omega (arith, told)) _ (omega (arith, many))); area = sym (area_kept _ _ _ held (omega (arith, told)) a.places.now (omega (arith, many))) }
+    let many = c.column_count-count.ensures.0 ∙ ap column_count c.record_of.ensures in record { answer = c.short_area.ensures ∙ ap (λ (n : ℕ). Err (ShortBuffer needing n)) many ∙ sym (read_short _ _ _ held (omega (arith, told)) _ (omega (arith, many))); area = sym (area_kept _ _ _ held (omega (arith, told)) a.places.now (omega (arith, many))) }
 
 pub fill-requires : goal.fill-requires
 fill-requires c =
@@ -48,4 +48,4 @@ returns c =
     let a = c.args in
     let held = c.requires in
     let told = c.row_count.ensures ∙ ap (row_count (table_record a.block.now)) c.row_bytes.ensures in
-    let many = c.column_count-count.ensures.0 ∙ ap column_count c.record_of.ensures in record { answer = ap Cells many ∙ sym (read_cells _ _ _ held (omega (arith, told)) _ (omega (arith, many))); area = c.fill.ensures ∙ sym (area_filled _ _ _ held (omega (arith, told)) a.places.now (omega (arith, many))) }
+    let many = c.column_count-count.ensures.0 ∙ ap column_count c.record_of.ensures in record { answer = ap (λ n. Ok (Some n)) many ∙ sym (read_cells _ _ _ held (omega (arith, told)) _ (omega (arith, many))); area = c.fill.ensures ∙ sym (area_filled _ _ _ held (omega (arith, told)) a.places.now (omega (arith, many))) }

@@ -6,11 +6,11 @@ use mathlib.Core.List.{List}
 use borrow.Author.Tests.{le-leb, lt-leb}
 use Rattle.columns.specs.Record.{column_count}
 use Rattle.columns.specs.Columns.{column_at}
-use Rattle.table.specs.declared.ColumnAnswer.TheVariants.{Found}
 use Rattle.table.specs.Context.{table_record}
 use Rattle.table.specs.Says.{column_in}
 use Rattle.table.proofs.ContextLaws.{record_long}
 use Rattle.table.proofs.column_in.Goals as goal
+use Rattle.std.specs.Prelude.{Some, Ok}
 
 pub column_count-requires : goal.column_count-requires
 column_count-requires c = rw c.record_of-table.ensures (record_long _ c.requires)
@@ -34,4 +34,4 @@ returns c =
     let a = c.args in
     let told = c.column_count.ensures.0 ∙ ap column_count c.record_of-table.ensures in
     rw (le-leb (a.index + 1) (column_count (table_record a.block.now)) (omega (arith, told)))
-    (ap Found (c.column_at.ensures.0 ∙ ap (λ (s : List ℕ). column_at s a.index) c.record_of-table.ensures))
+    (ap (λ n. Ok (Some n)) (c.column_at.ensures.0 ∙ ap (λ (s : List ℕ). column_at s a.index) c.record_of-table.ensures))

@@ -4,7 +4,7 @@ use Rattle.tree.specs.Answers.{kids_from}
 use Rattle.tree.proofs.Walk.{walk_none, walk_refused, walk_on, page_refused, page_alone, page_leaf, page_index}
 use Rattle.tree.proofs.Children.{more, no_more}
 use Rattle.tree.proofs.+check_children_check_under.Goals as goal
-use Rattle.tree.proofs.+check_children_check_under.Goals.{check_children-then-level-eq0+in-Accepted, check_children-else-level-eq0+in-Accepted-verdict}
+use Rattle.tree.proofs.+check_children_check_under.Goals.{check_children-then-level-eq0+in-Ok, check_children-else-level-eq0+in-Ok-verdict}
 
 pub check_children-loop-i-init : goal.check_children-loop-i-init
 check_children-loop-i-init t c = (omega arith, refl)
@@ -50,8 +50,8 @@ check_children-loop-i-preserved t c =
     let kids = (more a.l a.image.now a.level a.p l.i child.result child.ensures).1 in (
       omega arith,
       elim c.if-level-eq0.branch [
-        | check_children-then-level-eq0+in-Accepted w ↦ walk_on a.l a.image.now a.level _ _ _ _ kids (page_alone a.l a.image.now a.level child.result _ w.verdict_on-verdict.ensures w.if-level-eq0.true) w.in-Accepted.is
-        | check_children-else-level-eq0+in-Accepted-verdict w ↦ walk_on a.l a.image.now a.level _ _ _ _ kids w.check_under-verdict.ensures w.in-Accepted-verdict.is
+        | check_children-then-level-eq0+in-Ok w ↦ walk_on a.l a.image.now a.level _ _ _ _ kids (page_alone a.l a.image.now a.level child.result _ w.verdict_on-verdict.ensures w.if-level-eq0.true) w.in-Ok.is
+        | check_children-else-level-eq0+in-Ok-verdict w ↦ walk_on a.l a.image.now a.level _ _ _ _ kids w.check_under-verdict.ensures w.in-Ok-verdict.is
       ]
           ∙ l.invariant.1,
     )
@@ -71,7 +71,7 @@ check_under-returns-in_default t c =
 pub check_under-returns-then-level-eq0 : goal.check_under-returns-then-level-eq0
 check_under-returns-then-level-eq0 t c =
     let a = c.args in
-    page_leaf a.l a.image.now a.level a.p _ c.verdict_on-verdict.ensures c.if-level-eq0.true c.in-Accepted.is
+    page_leaf a.l a.image.now a.level a.p _ c.verdict_on-verdict.ensures c.if-level-eq0.true c.in-Ok.is
 
 pub check_under-overflow_sub-level : goal.check_under-overflow_sub-level
 check_under-overflow_sub-level t c = omega arith
@@ -79,9 +79,9 @@ check_under-overflow_sub-level t c = omega arith
 pub check_under-check_children-requires : goal.check_under-check_children-requires
 check_under-check_children-requires t c =
     let pre = c.requires in
-    (omega arith, (pre, sym c.verdict_on-verdict.ensures ∙ c.in-Accepted.is))
+    (omega arith, (pre, sym c.verdict_on-verdict.ensures ∙ c.in-Ok.is))
 
 pub check_under-returns : goal.check_under-returns
 check_under-returns t c =
     let a = c.args in
-    c.check_children.ensures ∙ page_index a.l a.image.now a.level a.p _ c.verdict_on-verdict.ensures c.if-level-eq0.false c.in-Accepted.is
+    c.check_children.ensures ∙ page_index a.l a.image.now a.level a.p _ c.verdict_on-verdict.ensures c.if-level-eq0.false c.in-Ok.is

@@ -12,10 +12,10 @@ use Rattle.keys.specs.declared.Sought.TheVariants.{AtLeast}
 use Rattle.tree.proofs.Seeks.{absent_pages, seek_none, seek_first, seek_last, seek_second}
 use Rattle.tree.proofs.+seek.Goals as goal
 
-pub returns-in-Refused : goal.returns-in-Refused
-returns-in-Refused t c =
+pub returns-in-Err : goal.returns-in-Err
+returns-in-Err t c =
     let a = c.args in
-    (way_refused a.l a.image.now AtLeast a.key a.pages a.p _ c.verdict_on-checked.ensures a.level _ c.in-Refused.is)
+    (way_refused a.l a.image.now AtLeast a.key a.pages a.p _ c.verdict_on-checked.ensures a.level _ c.in-Err.is)
 
 pub leaf_for-requires : goal.leaf_for-requires
 leaf_for-requires t c =
@@ -46,7 +46,7 @@ seek-found-requires t c =
       omega arith,
       (
         pre.0,
-        next_level a.l a.image.now (a.level - 1) a.p c.in-Here.child _ (sym c.child_at-first.ensures ∙ c.in-Here.is),
+        next_level a.l a.image.now (a.level - 1) a.p c.in-Some.child _ (sym c.child_at-first.ensures ∙ c.in-Some.is),
         omega arith,
         omega arith,
       ),
@@ -55,7 +55,7 @@ seek-found-requires t c =
 pub returns-in_default-found : goal.returns-in_default-found
 returns-in_default-found t c =
     let a = c.args in
-    seek_first a.l a.image.now a.key a.pages a.p _ c.verdict_on-checked.ensures a.level _ c.if-level-eq0.false c.in_default.is c.start_for-i.ensures.0 _ _ _ (more a.l a.image.now (a.level - 1) a.p _ c.in-Here.child (sym c.child_at-first.ensures ∙ c.in-Here.is)).1 c.seek-found.ensures c.in_default-found.not-Absent
+    seek_first a.l a.image.now a.key a.pages a.p _ c.verdict_on-checked.ensures a.level _ c.if-level-eq0.false c.in_default.is c.start_for-i.ensures.0 _ _ _ (more a.l a.image.now (a.level - 1) a.p _ c.in-Some.child (sym c.child_at-first.ensures ∙ c.in-Some.is)).1 c.seek-found.ensures c.in_default-found.not-Absent
 
 pub child_at-second-requires : goal.child_at-second-requires
 child_at-second-requires t c = (c.requires.0, sym c.verdict_on-checked.ensures ∙ c.in_default.is)
@@ -63,17 +63,17 @@ child_at-second-requires t c = (c.requires.0, sym c.verdict_on-checked.ensures �
 pub returns-in_default-second : goal.returns-in_default-second
 returns-in_default-second t c =
     let a = c.args in
-    sym c.in-Absent.is ∙ seek_last a.l a.image.now a.key a.pages a.p _ c.verdict_on-checked.ensures a.level _ c.if-level-eq0.false c.in_default.is c.start_for-i.ensures.0 _ _ _ (more a.l a.image.now (a.level - 1) a.p _ c.in-Here.child (sym c.child_at-first.ensures ∙ c.in-Here.is)).1 c.seek-found.ensures _ c.in-Absent.is (sym c.child_at-second.ensures ∙ c.in_default-second.is)
+    sym c.in-Absent.is ∙ seek_last a.l a.image.now a.key a.pages a.p _ c.verdict_on-checked.ensures a.level _ c.if-level-eq0.false c.in_default.is c.start_for-i.ensures.0 _ _ _ (more a.l a.image.now (a.level - 1) a.p _ c.in-Some.child (sym c.child_at-first.ensures ∙ c.in-Some.is)).1 c.seek-found.ensures _ c.in-Absent.is (sym c.child_at-second.ensures ∙ c.in_default-second.is)
 
 pub seek-requires : goal.seek-requires
 seek-requires t c =
     let a = c.args in
     let pre = c.requires in
-    let read = absent_pages a.l a.pages _ _ c.seek-found.ensures _ c.in-Absent.is (a.level - 1) (absent_few (page_tree a.l a.image.now) (sorted a.l a.image.now) (filled a.l a.image.now) a.key (a.level - 1) c.in-Here.child) in (
+    let read = absent_pages a.l a.pages _ _ c.seek-found.ensures _ c.in-Absent.is (a.level - 1) (absent_few (page_tree a.l a.image.now) (sorted a.l a.image.now) (filled a.l a.image.now) a.key (a.level - 1) c.in-Some.child) in (
       omega arith,
       (
         pre.0,
-        next_level a.l a.image.now (a.level - 1) a.p c.in-Here-second.further _ (sym c.child_at-second.ensures ∙ c.in-Here-second.is),
+        next_level a.l a.image.now (a.level - 1) a.p c.in-Some-second.further _ (sym c.child_at-second.ensures ∙ c.in-Some-second.is),
         omega arith,
         omega (arith, read),
       ),
@@ -82,4 +82,4 @@ seek-requires t c =
 pub returns : goal.returns
 returns t c =
     let a = c.args in
-    c.seek.ensures ∙ ap (shown a.l) (seek_second a.l a.image.now a.key a.pages a.p _ c.verdict_on-checked.ensures a.level _ c.if-level-eq0.false c.in_default.is c.start_for-i.ensures.0 _ _ _ (more a.l a.image.now (a.level - 1) a.p _ c.in-Here.child (sym c.child_at-first.ensures ∙ c.in-Here.is)).1 c.seek-found.ensures _ _ _ c.in-Absent.is (more a.l a.image.now (a.level - 1) a.p _ c.in-Here-second.further (sym c.child_at-second.ensures ∙ c.in-Here-second.is)).1)
+    c.seek.ensures ∙ ap (shown a.l) (seek_second a.l a.image.now a.key a.pages a.p _ c.verdict_on-checked.ensures a.level _ c.if-level-eq0.false c.in_default.is c.start_for-i.ensures.0 _ _ _ (more a.l a.image.now (a.level - 1) a.p _ c.in-Some.child (sym c.child_at-first.ensures ∙ c.in-Some.is)).1 c.seek-found.ensures _ _ _ c.in-Absent.is (more a.l a.image.now (a.level - 1) a.p _ c.in-Some-second.further (sym c.child_at-second.ensures ∙ c.in-Some-second.is)).1)

@@ -36,12 +36,12 @@ returns-in_default t c =
 pub verdict_on-verdict-requires : goal.verdict_on-verdict-requires
 verdict_on-verdict-requires t c = c.requires.0
 
-pub returns-in-Refused : goal.returns-in-Refused
-returns-in-Refused t c =
+pub returns-in-Err : goal.returns-in-Err
+returns-in-Err t c =
     let a = c.args in
     let pre = c.requires in
-    let went = next_chosen a.l a.image.now a.key (children (page_tree a.l a.image.now) (a.level - 1) a.p) _ (sym c.child_for-next.ensures ∙ c.in-Here.is) in (
-      end_refused a.l a.image.now a.pages a.p pre.1 a.level c.if-level-eq0.false c.in-Here.child a.key went _ (sym c.verdict_on-verdict.ensures ∙ c.in-Refused.is),
+    let went = next_chosen a.l a.image.now a.key (children (page_tree a.l a.image.now) (a.level - 1) a.p) _ (sym c.child_for-next.ensures ∙ c.in-Some.is) in (
+      end_refused a.l a.image.now a.pages a.p pre.1 a.level c.if-level-eq0.false c.in-Some.child a.key went _ (sym c.verdict_on-verdict.ensures ∙ c.in-Err.is),
       leads_refused a.l a.image.now _ _ _ _,
     )
 
@@ -56,17 +56,17 @@ way_from-requires t c =
     let a = c.args in
     let pre = c.requires in
     let ok = sym c.verdict_on-verdict.ensures ∙ c.in_default-verdict.is in
-    let went = next_chosen a.l a.image.now a.key (children (page_tree a.l a.image.now) (a.level - 1) a.p) _ (sym c.child_for-next.ensures ∙ c.in-Here.is) in (
+    let went = next_chosen a.l a.image.now a.key (children (page_tree a.l a.image.now) (a.level - 1) a.p) _ (sym c.child_for-next.ensures ∙ c.in-Some.is) in (
       omega arith,
-      (pre.0, ok, chosen_level a.l a.image.now a.key (a.level - 1) a.p c.in-Here.child went ok, omega arith),
+      (pre.0, ok, chosen_level a.l a.image.now a.key (a.level - 1) a.p c.in-Some.child went ok, omega arith),
     )
 
 pub returns : goal.returns
 returns t c =
     let a = c.args in
     let pre = c.requires in
-    let child = c.in-Here.child in
-    let went = next_chosen a.l a.image.now a.key (children (page_tree a.l a.image.now) (a.level - 1) a.p) _ (sym c.child_for-next.ensures ∙ c.in-Here.is) in
+    let child = c.in-Some.child in
+    let went = next_chosen a.l a.image.now a.key (children (page_tree a.l a.image.now) (a.level - 1) a.p) _ (sym c.child_for-next.ensures ∙ c.in-Some.is) in
     let index = c.if-level-eq0.false in (
       c.way_from.ensures.0 ∙ end_one a.l a.image.now a.pages a.p pre.1 a.level index child a.key went,
       leads_on a.l a.image.now a.pages a.p pre.1 a.level index child a.key went _ c.way_from.ensures.1,

@@ -9,6 +9,6 @@ pub returns-in-Absent : goal.returns-in-Absent
 unfolding as_block
 returns-in-Absent c = rw c.in-Absent.is
 
-pub returns-in-Refused : goal.returns-in-Refused
+pub returns-in-Err : goal.returns-in-Err
 unfolding as_block
-returns-in-Refused c = rw c.in-Refused.is
+returns-in-Err c = rw c.in-Err.is

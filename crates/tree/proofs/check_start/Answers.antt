@@ -8,7 +8,7 @@ returns-in_default c =
     start_refused a.l a.image.now _ _ c.check_header-verdict.ensures c.in_default.is
 
 pub check_root-requires : goal.check_root-requires
-check_root-requires c = (c.requires, sym c.check_header-verdict.ensures ∙ c.in-Accepted.is)
+check_root-requires c = (c.requires, sym c.check_header-verdict.ensures ∙ c.in-Ok.is)
 
 pub returns : goal.returns
 returns c = c.check_root.ensures

@@ -9,9 +9,9 @@ returns-in_default c =
     tree_refused a.l a.image.now _ c.check_header-verdict.ensures _ c.in_default.is
 
 pub root_link-p-requires : goal.root_link-p-requires
-root_link-p-requires c = (c.requires, header_length _ (sym c.check_header-verdict.ensures ∙ c.in-Accepted.is))
+root_link-p-requires c = (c.requires, header_length _ (sym c.check_header-verdict.ensures ∙ c.in-Ok.is))
 
 pub returns : goal.returns
 returns c =
     let a = c.args in
-    c.check_under.ensures ∙ tree_on_lem a.l a.image.now _ c.check_header-verdict.ensures _ _ c.in-Accepted.is c.root_link-p.ensures c.stated_level.ensures.0
+    c.check_under.ensures ∙ tree_on_lem a.l a.image.now _ c.check_header-verdict.ensures _ _ c.in-Ok.is c.root_link-p.ensures c.stated_level.ensures.0

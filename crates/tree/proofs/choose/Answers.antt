@@ -21,9 +21,9 @@ link_at-child-requires c =
     let pre = c.requires in
     let shaped = c.shape_in-shape.ensures in
     let counted = c.count_of-count.ensures.0 in
-    link_ready a.l a.p a.page.now pre.0 pre.1 pre.2 _ _ c.in-At.i shaped counted
-    (rw counted (choose_inside a.l a.page.now a.level a.p.range.to a.key c.in-At.i
-    (rw (shaped, counted) at (sym c.last_at_most-seat.ensures ∙ c.in-At.is))))
+    link_ready a.l a.p a.page.now pre.0 pre.1 pre.2 _ _ c.in-Some.i shaped counted
+    (rw counted (choose_inside a.l a.page.now a.level a.p.range.to a.key c.in-Some.i
+    (rw (shaped, counted) at (sym c.last_at_most-seat.ensures ∙ c.in-Some.is))))
 
 pub returns : goal.returns
 returns c =
@@ -31,5 +31,5 @@ returns c =
     let shaped = c.shape_in-shape.ensures in
     let counted = c.count_of-count.ensures.0 in
     rw (c.link_at-child.ensures, shaped, counted)
-    (choose_some a.l a.page.now a.level a.p.range.to a.key c.in-At.i
-    (rw (shaped, counted) at (sym c.last_at_most-seat.ensures ∙ c.in-At.is)))
+    (choose_some a.l a.page.now a.level a.p.range.to a.key c.in-Some.i
+    (rw (shaped, counted) at (sym c.last_at_most-seat.ensures ∙ c.in-Some.is)))

@@ -19,6 +19,6 @@ pub returns-in-Nowhere : goal.returns-in-Nowhere
 unfolding at_end shown
 returns-in-Nowhere c = rw c.in-Nowhere.is
 
-pub returns-in-Refused : goal.returns-in-Refused
+pub returns-in-Err : goal.returns-in-Err
 unfolding at_end shown
-returns-in-Refused c = rw c.in-Refused.is
+returns-in-Err c = rw c.in-Err.is

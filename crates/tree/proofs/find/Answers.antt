@@ -4,11 +4,11 @@ use Rattle.keys.specs.declared.Sought.TheVariants.{Equal}
 use Rattle.tree.specs.Answers.{shown}
 use Rattle.tree.proofs.find.Goals as goal
 
-pub returns-in-Refused : goal.returns-in-Refused
+pub returns-in-Err : goal.returns-in-Err
 unfolding shown
-returns-in-Refused c =
+returns-in-Err c =
     let a = c.args in
-    ap (shown a.l) (root_refused a.l a.image.now Equal a.key _ c.check_header-verdict.ensures _ c.in-Refused.is)
+    ap (shown a.l) (root_refused a.l a.image.now Equal a.key _ c.check_header-verdict.ensures _ c.in-Err.is)
 
 pub find_in-requires : goal.find_in-requires
 find_in-requires c = (c.requires, sym c.check_header-verdict.ensures ∙ c.in_default.is)

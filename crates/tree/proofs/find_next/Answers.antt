@@ -7,11 +7,11 @@ use Rattle.keys.specs.declared.Sought.TheVariants.{AtLeast}
 use Rattle.tree.specs.Answers.{shown}
 use Rattle.tree.proofs.find_next.Goals as goal
 
-pub returns-in-Refused : goal.returns-in-Refused
+pub returns-in-Err : goal.returns-in-Err
 unfolding shown
-returns-in-Refused c =
+returns-in-Err c =
     let a = c.args in
-    ap (shown a.l) (root_refused a.l a.image.now AtLeast a.from _ c.check_header-verdict.ensures _ c.in-Refused.is)
+    ap (shown a.l) (root_refused a.l a.image.now AtLeast a.from _ c.check_header-verdict.ensures _ c.in-Err.is)
 
 pub root_link-p-requires : goal.root_link-p-requires
 root_link-p-requires c = (c.requires, header_length _ (sym c.check_header-verdict.ensures ∙ c.in_default.is))

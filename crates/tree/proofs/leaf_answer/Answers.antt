@@ -26,8 +26,8 @@ overflow_mul-i c =
     let pre = c.requires in
     omega (
       arith,
-      leaf_inside a.l a.p a.page.now pre.0 pre.1 pre.2 pre.3 c.in-At.i
-          (seen_inside a.l a.page.now a.sought a.key c.in-At.i (rw (c.shape_of-shape.ensures ∙ ap (shape a.l) (sym pre.3), c.count_of-count.ensures.0) at (sym c.first_that-seat.ensures ∙ c.in-At.is))),
+      leaf_inside a.l a.p a.page.now pre.0 pre.1 pre.2 pre.3 c.in-Some.i
+          (seen_inside a.l a.page.now a.sought a.key c.in-Some.i (rw (c.shape_of-shape.ensures ∙ ap (shape a.l) (sym pre.3), c.count_of-count.ensures.0) at (sym c.first_that-seat.ensures ∙ c.in-Some.is))),
     )
 
 pub fields_at-fields-requires : goal.fields_at-fields-requires
@@ -37,8 +37,8 @@ fields_at-fields-requires c =
       pre.0,
       omega (
         arith,
-        leaf_inside a.l a.p a.page.now pre.0 pre.1 pre.2 pre.3 c.in-At.i
-            (seen_inside a.l a.page.now a.sought a.key c.in-At.i (rw (c.shape_of-shape.ensures ∙ ap (shape a.l) (sym pre.3), c.count_of-count.ensures.0) at (sym c.first_that-seat.ensures ∙ c.in-At.is))),
+        leaf_inside a.l a.p a.page.now pre.0 pre.1 pre.2 pre.3 c.in-Some.i
+            (seen_inside a.l a.page.now a.sought a.key c.in-Some.i (rw (c.shape_of-shape.ensures ∙ ap (shape a.l) (sym pre.3), c.count_of-count.ensures.0) at (sym c.first_that-seat.ensures ∙ c.in-Some.is))),
       ),
     )
 
@@ -46,5 +46,5 @@ pub returns : goal.returns
 returns c =
     let a = c.args in
     let pre = c.requires in
-    rw (c.fields_at-fields.ensures, ← (leaf_record a.l a.p a.page.now pre.0 pre.1 pre.2 pre.3 c.in-At.i))
-    (leaf_some a.l _ a.pages _ (seen_some a.l a.page.now a.sought a.key c.in-At.i (rw (c.shape_of-shape.ensures ∙ ap (shape a.l) (sym pre.3), c.count_of-count.ensures.0) at (sym c.first_that-seat.ensures ∙ c.in-At.is))))
+    rw (c.fields_at-fields.ensures, ← (leaf_record a.l a.p a.page.now pre.0 pre.1 pre.2 pre.3 c.in-Some.i))
+    (leaf_some a.l _ a.pages _ (seen_some a.l a.page.now a.sought a.key c.in-Some.i (rw (c.shape_of-shape.ensures ∙ ap (shape a.l) (sym pre.3), c.count_of-count.ensures.0) at (sym c.first_that-seat.ensures ∙ c.in-Some.is))))

@@ -9,12 +9,12 @@ use Rattle.tree.proofs.Steps.{root_on}
 use Rattle.tree.proofs.Ways.{lookup_refused, start_header, start_root, way_again, leads_refused, leads_from_root}
 use Rattle.tree.proofs.way_to.Goals as goal
 
-pub returns-in-Refused : goal.returns-in-Refused
+pub returns-in-Err : goal.returns-in-Err
 unfolding at_end
-returns-in-Refused c =
+returns-in-Err c =
     let a = c.args in
     let pre = c.requires in
-    (lookup_refused a.l a.image.now a.key _ (sym pre.1 ∙ c.in-Refused.is), leads_refused a.l a.image.now _ _ _ _)
+    (lookup_refused a.l a.image.now a.key _ (sym pre.1 ∙ c.in-Err.is), leads_refused a.l a.image.now _ _ _ _)
 
 pub returns-then-leads_to : goal.returns-then-leads_to
 returns-then-leads_to c =
