@@ -1,7 +1,7 @@
 // Blocks: their room, their tests 12 to 15, and their bytes decoded.
 #![tactic(auto)]
 
-ghost use Rattle.std.specs.Prelude.{◌≡◌, ◌+◌, ◌≤◌, length};
+ghost use Rattle.std.specs.Prelude.{◌≡◌, ◌+◌, ◌≤◌, length, Ok};
 ghost use Rattle.refusal.specs.Order.{in_order};
 ghost use Rattle.header.specs.Header.{header_fits};
 ghost use Rattle.page.specs.Layout.{compared};
@@ -9,11 +9,11 @@ ghost use Rattle.tree.specs.Lookup.{lookup};
 ghost use Rattle.tree.specs.Ways.{at_end, FromRoot};
 ghost use Rattle.edition.specs.Fair.{FairTrailer, FairEdition};
 ghost use Rattle.laws.specs.Front.{fronted};
-ghost use Rattle.block.specs.Block.{room_for, room as room_of, room32 as room32Of, place_fits, trailer_fits, sum_fits, trailer_rules, block_fits, tested_by, checked_block, size_in, test_of, internal, plain, block_bytes, read_of, filled_of};
+ghost use Rattle.block.specs.Block.{room_for, room as room_of, room32 as room32Of, place_fits, trailer_fits, sum_fits, trailer_rules, block_fits, tested_by, checked_block, test_of, internal, plain, block_bytes, read_of, filled_of};
 
 use edition::{Edition, Trailer};
 use refusal::{Fault, Refusal, Verdict};
-use tree::{FoundBlock, Listed, Way};
+use tree::{Found, Listed, Way};
 
 fn room_for(t: Trailer, size: u64) -> u64
     requires { (size ≤ 4294967295) × (t.length ≤ 64) }
@@ -104,25 +104,19 @@ fn test_listed(image: &[u8], t: Trailer, b: Listed) -> Verdict
 }
 
 // What a lookup found, tested: 12 to 15 after what the lookup refuses.
-fn test_found(image: &[u8], t: Trailer, found: Result<Found<Listed>, Refusal>) -> Result<Listed, Refusal>
+fn test_found(
+    image: &[u8],
+    t: Trailer,
+    found: Result<Found<Listed>, Refusal>,
+) -> Result<Listed, Refusal>
     requires { FairTrailer t }
     ensures { result ≡ tested_by (block_fits t image.now) found }
 {
-    match found {
-        Ok(Found::Entry(b, _)) => {
-            let verdict = test_listed(image, t, b);
-            match verdict {
-                Ok(()) => Ok(b),
-                Err(refusal) => Err(refusal),
-            }
-        }
-        Ok(Found::Absent(_)) => Err(Refusal {
-            fault: Fault::BlockUnlisted,
-            place: 0,
-            more: 0,
-        }),
-        Err(refusal) => Err(refusal),
-    }
+    let Found::Entry(b, _) = found? else {
+        return refusal::refused_at(Fault::BlockUnlisted, 0);
+    };
+    test_listed(image, t, b)?;
+    Ok(b)
 }
 
 // A block that is looked up and tested.
@@ -161,25 +155,13 @@ pub fn test_block(image: &[u8], e: Edition, block: u64) -> Result<u64, Refusal>
     requires { FairEdition e }
     ensures { result ≡ test_of e image.now block }
 {
-    size_in(check_block(image, e, block))
+    Ok(check_block(image, e, block)?.size)
 }
 
 pub fn is_internal(block: u64) -> bool
     ensures { result ≡ internal block }
 {
     block / 2 % 2 == 1
-}
-
-// Copies the bytes; both are of one length.
-fn copy(out: &mut [u8], bytes: &[u8])
-    requires { length out.old ≡ length bytes.now }
-    ensures { out.new ≡ bytes.now }
-{
-    let mut i: usize = 0;
-    while i < bytes.len() {
-        out[i] = bytes[i];
-        i += 1;
-    }
 }
 
 // The bytes of a block, in place: decoded by the method unless the block is internal.
@@ -189,7 +171,7 @@ fn make_plain(method: u8, block: u64, bytes: &mut [u8])
     if is_internal(block) {
         return;
     }
-    coding::decode(method, block, bytes);
+    let _ = coding::decode(method, block, bytes);
 }
 
 // The bytes of a block as stored come to stand, decoded, at the front of `out`.
@@ -198,7 +180,7 @@ fn decode_into(method: u8, block: u64, bytes: &[u8], out: &mut [u8])
     ensures { out.new ≡ fronted (plain method block bytes.now) out.old }
 {
     let n = bytes.len();
-    copy(&mut out[0..n], bytes);
+    out[0..n].copy_from_slice(bytes);
     make_plain(method, block, &mut out[0..n]);
 }
 
@@ -213,33 +195,16 @@ pub fn block_into(image: &[u8], b: Listed, out: &mut [u8])
     decode_into(method, b.block, &image[at..at + size], out);
 }
 
-// A refusal, as the answer of a read; the size of what is no refusal.
-fn size_in(checked: Result<Listed, Refusal>) -> Result<u64, Refusal>
-    ensures { result ≡ size_in checked }
-{
-    match checked {
-        Ok(b) => Ok(b.size),
-        Err(refusal) => Err(refusal),
-    }
-}
-
 // The tests, then 17, then the bytes.
 pub fn read_block(image: &[u8], e: Edition, block: u64, out: &mut [u8]) -> Result<u64, Refusal>
     requires { FairEdition e }
     ensures answer { result ≡ read_of e image.now block (length out.old) }
     ensures buffer { out.new ≡ filled_of e image.now block out.old }
 {
-    let checked = check_block(image, e, block);
-    let Ok(b) = checked else {
-        return size_in(checked);
-    };
+    let b = check_block(image, e, block)?;
     let size = b.size;
     if (out.len() as u64) < size {
-        return Err(Refusal {
-            fault: Fault::ShortBuffer,
-            place: 0,
-            more: size,
-        });
+        return refusal::refused_needing(Fault::ShortBuffer, size);
     }
     block_into(image, b, out);
     Ok(size)

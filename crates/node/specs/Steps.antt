@@ -15,10 +15,6 @@ unfoldable pub measured_in : Kids → Result ℕ Refusal
 measured_in (all bs) = Ok (total bs)
 measured_in (fault r) = Err r
 
-unfoldable pub refused_in : Result Listed Refusal → Result ℕ Refusal
-refused_in (Ok b) = Ok b.size
-refused_in (Err r) = Err r
-
 -- a number that is listed as a block which passes its tests
 pub record IsListed (E : Edition) (image : List ℕ) (n : ℕ) : Type 0 where
   pub block : Listed
@@ -34,17 +30,3 @@ bytes_in image (Err r) = []
 
 unfoldable pub bytes_at : Edition → List ℕ → ℕ → List ℕ
 bytes_at E image n = bytes_in image (checked_block E image n)
-
--- a refusal out of an inner step, as the answer of the read; what is no refusal plays no part
-unfoldable pub refused_sum : Result ℕ Refusal → Result (Option ℕ) Refusal
-refused_sum (Ok n) = Ok None
-refused_sum (Err r) = Err r
-
-unfoldable pub refused_read : Result Listed Refusal → Result (Option ℕ) Refusal
-refused_read (Ok b) = Ok None
-refused_read (Err r) = Err r
-
-unfoldable pub gone_read : Result (Found Node) Refusal → Result (Option ℕ) Refusal
-gone_read (Ok (Entry n pages)) = Ok None
-gone_read (Ok (Absent pages)) = Ok None
-gone_read (Err r) = Err r

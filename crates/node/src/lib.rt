@@ -1,8 +1,7 @@
 // Node data: one block, or a data tree of one level, into the lent buffer.
 #![tactic(auto)]
 
-ghost use Rattle.std.specs.Prelude.{◌≡◌, true, false, ◌+◌, ◌*◌, ◌≤◌, ◌<◌, length};
-ghost use Rattle.refusal.specs.Order.{◌at◌, ◌needing◌};
+ghost use Rattle.std.specs.Prelude.{◌≡◌, true, false, ◌+◌, ◌*◌, ◌≤◌, ◌<◌, length, Ok};
 ghost use Rattle.keys.specs.Search.{joined};
 ghost use Rattle.header.specs.Header.{header_fits};
 ghost use Rattle.laws.specs.Front.{fronted};
@@ -13,12 +12,11 @@ ghost use Rattle.edition.specs.Fair.{FairRootBlock, FairEdition};
 ghost use Rattle.block.specs.Block.{checked_block, block_bytes, internal};
 ghost use Rattle.node.specs.Content.{number_at, numbers_from, none_internal, shape_fits, kids_of, tree_content, block_content, data_of, node_content, answer_to, filled_by};
 ghost use Rattle.node.specs.Content.{bytes as bytes_of};
-ghost use Rattle.node.specs.Steps.{measured_in, refused_in, IsListed, AllListed, bytes_at, refused_sum, refused_read, gone_read};
+ghost use Rattle.node.specs.Steps.{measured_in, IsListed, AllListed, bytes_at};
 
-use block::Checked;
 use edition::{Edition, RootBlock};
-use refusal::{Fault, Refusal, Verdict};
-use tree::{FoundBlock, FoundNode, Listed, Way};
+use refusal::{Fault, Refusal};
+use tree::{Found, Listed, Way};
 
 // The i-th number in a data tree's root block.
 fn number_at(root: &[u8], d: RootBlock, i: usize) -> u64
@@ -34,12 +32,10 @@ fn none_internal(root: &[u8], d: RootBlock, count: usize) -> bool
     requires { FairRootBlock d × (8 + count * d.word ≤ length root.now) × (count ≤ 65535) }
     ensures { result ≡ none_internal (numbers_from d root.now 0 count) }
 {
-    let mut i: usize = 0;
-    while i < count {
+    for i in 0..count {
         if block::is_internal(number_at(root, d, i)) {
             return false;
         }
-        i += 1;
     }
     true
 }
@@ -67,15 +63,6 @@ fn shape_fits(root: &[u8], d: RootBlock) -> bool
         & none_internal(root, d, count)
 }
 
-fn refused_measure(checked: Result<Listed, Refusal>) -> Result<u64, Refusal>
-    ensures { result ≡ refused_in checked }
-{
-    match checked {
-        Ok(b) => Ok(b.size),
-        Err(refusal) => Err(refusal),
-    }
-}
-
 // The children of a data tree, each looked up and tested in turn. The root page is tested once; the way
 // to a leaf page is taken again for the children behind that are listed there too.
 fn measure(image: &[u8], e: Edition, root: &[u8], count: usize) -> Result<u64, Refusal>
@@ -83,40 +70,26 @@ fn measure(image: &[u8], e: Edition, root: &[u8], count: usize) -> Result<u64, R
     ensures { result ≡ measured_in (kids_of e image.now (numbers_from e.tree root.now 0 count)) }
 {
     let start = tree::check_root(image, e.blocks);
-    let mut way = Ok(Found::Absent(0));
+    let mut way: Way = Ok(Found::Absent(0));
     let mut sum: u64 = 0;
-    let mut i: usize = 0;
-    while i < count {
+    for i in 0..count {
         let number = number_at(root, e.tree, i);
         way = tree::way_to(image, e.blocks, start, way, number);
-        let checked = block::check_block_at(image, e, way, number);
-        let Ok(b) = checked else {
-            return refused_measure(checked);
-        };
-        sum += b.size;
-        i += 1;
+        sum += block::check_block_at(image, e, way, number)?.size;
     }
     Ok(sum)
 }
 
-// The block at the end of the way of a number whose tests have passed. The last two arms are never
-// reached: a second lookup of the number finds the same block.
+// The block at the end of the way of a number whose tests have passed: a second lookup of the number
+// finds the same block.
 fn listed_at(image: &[u8], e: Edition, way: Way, number: u64) -> Listed
     requires { FairEdition e × IsListed e image.now number × FromRoot e.blocks image.now way × (at_end e.blocks image.now way (compared e.blocks number) ≡ lookup e.blocks image.now number) }
     ensures { checked_block e image.now number ≡ Ok result }
 {
-    let nothing = Listed {
-        block: 0,
-        offset: 0,
-        size: 0,
-        references: 0,
+    let Ok(Found::Entry(b, _)) = tree::block_at(image, e.blocks, way, number) else {
+        unreachable!();
     };
-    let found = tree::block_at(image, e.blocks, way, number);
-    match found {
-        Ok(Found::Entry(b, _)) => b,
-        Ok(Found::Absent(_)) => nothing,
-        Err(_) => nothing,
-    }
+    b
 }
 
 // The children's bytes, each right behind those of the child before.
@@ -126,37 +99,15 @@ fn gather(image: &[u8], e: Edition, root: &[u8], count: usize, out: &mut [u8])
     ensures { out.new ≡ fronted (joined (bytes_at e image.now) (numbers_from e.tree root.now 0 count)) out.old }
 {
     let start = tree::check_root(image, e.blocks);
-    let mut way = Ok(Found::Absent(0));
+    let mut way: Way = Ok(Found::Absent(0));
     let mut n: usize = 0;
-    let mut i: usize = 0;
-    while i < count {
+    for i in 0..count {
         let child = number_at(root, e.tree, i);
         way = tree::way_to(image, e.blocks, start, way, child);
         let b = listed_at(image, e, way, child);
         block::block_into(image, b, &mut out[n..]);
         n += b.size as usize;
-        i += 1;
     }
-}
-
-fn short_buffer(size: u64) -> Result<Option<u64>, Refusal>
-    ensures { result ≡ Err (Fault.ShortBuffer needing size) }
-{
-    Err(Refusal {
-        fault: Fault::ShortBuffer,
-        place: 0,
-        more: size,
-    })
-}
-
-fn no_data_tree(offset: u64) -> Result<Option<u64>, Refusal>
-    ensures { result ≡ Err (Fault.DataTree at offset) }
-{
-    Err(Refusal {
-        fault: Fault::DataTree,
-        place: offset,
-        more: 0,
-    })
 }
 
 // The data is one block: 17, then its bytes.
@@ -167,41 +118,35 @@ fn read_one(image: &[u8], b: Listed, out: &mut [u8]) -> Result<Option<u64>, Refu
 {
     let size = b.size;
     if (out.len() as u64) < size {
-        return short_buffer(size);
+        return refusal::refused_needing(Fault::ShortBuffer, size);
     }
     block::block_into(image, b, out);
     Ok(Some(size))
 }
 
-fn refused_sum(measured: Result<u64, Refusal>) -> Result<Option<u64>, Refusal>
-    ensures { result ≡ refused_sum measured }
-{
-    match measured {
-        Ok(_) => Ok(None),
-        Err(refusal) => Err(refusal),
-    }
-}
-
 // The data is a data tree with the root block's bytes as stored: its shape, its children in turn, the
 // sum, 17, and then the bytes.
-fn read_root(image: &[u8], e: Edition, root: &[u8], offset: u64, out: &mut [u8]) -> Result<Option<u64>, Refusal>
+fn read_root(
+    image: &[u8],
+    e: Edition,
+    root: &[u8],
+    offset: u64,
+    out: &mut [u8],
+) -> Result<Option<u64>, Refusal>
     requires { FairEdition e × (header_fits image.now ≡ Ok tt) }
     ensures answer { result ≡ answer_to (tree_content e image.now offset root.now) (length out.old) }
     ensures buffer { out.new ≡ filled_by (tree_content e image.now offset root.now) out.old }
 {
     if !shape_fits(root, e.tree) {
-        return no_data_tree(offset);
+        return refusal::refused_at(Fault::DataTree, offset);
     }
     let count = le::field2(root, 2) as usize;
-    let measured = measure(image, e, root, count);
-    let Ok(sum) = measured else {
-        return refused_sum(measured);
-    };
+    let sum = measure(image, e, root, count)?;
     if sum != le::field4(root, 4) as u64 {
-        return no_data_tree(offset);
+        return refusal::refused_at(Fault::DataTree, offset);
     }
     if (out.len() as u64) < sum {
-        return short_buffer(sum);
+        return refusal::refused_needing(Fault::ShortBuffer, sum);
     }
     gather(image, e, root, count, out);
     Ok(Some(sum))
@@ -221,15 +166,6 @@ fn read_listed(image: &[u8], e: Edition, b: Listed, out: &mut [u8]) -> Result<Op
     read_one(image, b, out)
 }
 
-fn refused_data(checked: Result<Listed, Refusal>) -> Result<Option<u64>, Refusal>
-    ensures { result ≡ refused_read checked }
-{
-    match checked {
-        Ok(_) => Ok(None),
-        Err(refusal) => Err(refusal),
-    }
-}
-
 // The data under a data block number: none under 0, and 1 counts as 0.
 fn read_data(image: &[u8], e: Edition, number: u64, out: &mut [u8]) -> Result<Option<u64>, Refusal>
     requires { FairEdition e × (header_fits image.now ≡ Ok tt) }
@@ -239,33 +175,23 @@ fn read_data(image: &[u8], e: Edition, number: u64, out: &mut [u8]) -> Result<Op
     if keys::cleared(number) == 0 {
         return Ok(Some(0));
     }
-    let checked = block::check_block_in(image, e, number);
-    let Ok(b) = checked else {
-        return refused_data(checked);
-    };
+    let b = block::check_block_in(image, e, number)?;
     read_listed(image, e, b, out)
 }
 
-// Absent and refusals, as the answer of the read.
-fn gone(found: Result<Found<Node>, Refusal>) -> Result<Option<u64>, Refusal>
-    ensures { result ≡ gone_read found }
-{
-    match found {
-        Ok(Found::Entry(_, _)) => Ok(None),
-        Ok(Found::Absent(_)) => Ok(None),
-        Err(refusal) => Err(refusal),
-    }
-}
-
 // Node lookup, then its data block. The header is tested once, with the node. No byte is written before the last test has passed.
-pub fn read_node(image: &[u8], e: Edition, node: u64, out: &mut [u8]) -> Result<Option<u64>, Refusal>
+pub fn read_node(
+    image: &[u8],
+    e: Edition,
+    node: u64,
+    out: &mut [u8],
+) -> Result<Option<u64>, Refusal>
     requires { FairEdition e }
     ensures answer { result ≡ answer_to (node_content e image.now node) (length out.old) }
     ensures buffer { out.new ≡ filled_by (node_content e image.now node) out.old }
 {
-    let found = tree::find_node(image, e.nodes, node);
-    let Ok(Found::Entry(listed, _)) = found else {
-        return gone(found);
+    let Found::Entry(listed, _) = tree::find_node(image, e.nodes, node)? else {
+        return Ok(None);
     };
     read_data(image, e, listed.block, out)
 }

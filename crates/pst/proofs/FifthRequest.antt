@@ -25,6 +25,7 @@ use Rattle.table.proofs.ContextLaws.{table_exactly}
 use Rattle.table.proofs.IndexLaws.{table_on, column_on, column_refused}
 use Rattle.table.proofs.SaidLaws.{column_past, column_there}
 use Rattle.table.proofs.RowLaws.{refusal_in, row_answered_exactly, row_scan_holds}
+use Rattle.cells.specs.declared.Cell.TheVariants as cell
 use Rattle.cells.specs.Rows.{Held, rows_named, row_bytes, rows_test, row_count, row_at, count_of}
 use Rattle.cells.specs.Cells.{cell_at, cell_of}
 use Rattle.cells.specs.Tried.{cell_rules}
@@ -42,7 +43,6 @@ use Rattle.pst.proofs.Injective.{table_injective, column_injective, count_inject
 use Rattle.std.specs.Prelude.{Option, Some, None, Result, Ok, Err}
 use Rattle.refusal.specs.declared.Refusal.{Refusal}
 use Rattle.cells.specs.declared.Cell.{Cell}
-use Rattle.cells.specs.declared.Cell.TheVariants.{Empty, Item, Number, Subnode}
 
 both_ways : {A B C : Type 0} → A ↔ B → B ↔ C → A ↔ C
 both_ways p q = ((λ a. q.0 (p.0 a)), (λ c. p.1 (q.1 c)))
@@ -132,11 +132,11 @@ module _ (block rows : List ℕ) where
 -- answered or absent, and no refusal
 not_refused : (c : Result (Option Cell) Refusal) → (refuses (cell_means c) ≡ false) ↔ (tried.refusal_in c ≡ Ok tt)
 unfolding refuses cell_means refusal_means tried.refusal_in
-not_refused (Ok (Some (Number value))) = ((λ e. refl), (λ e. refl))
-not_refused (Ok (Some Empty)) = ((λ e. refl), (λ e. refl))
-not_refused (Ok (Some (Item item))) = ((λ e. refl), (λ e. refl))
-not_refused (Ok (Some (Subnode subnode))) = ((λ e. refl), (λ e. refl))
-not_refused (Ok (Some Missing)) = ((λ e. refl), (λ e. refl))
+not_refused (Ok (Some (cell.Number value))) = ((λ e. refl), (λ e. refl))
+not_refused (Ok (Some cell.Empty)) = ((λ e. refl), (λ e. refl))
+not_refused (Ok (Some (cell.Item item))) = ((λ e. refl), (λ e. refl))
+not_refused (Ok (Some (cell.Subnode subnode))) = ((λ e. refl), (λ e. refl))
+not_refused (Ok (Some cell.Missing)) = ((λ e. refl), (λ e. refl))
 not_refused (Ok None) = ((λ e. refl), (λ e. refl))
 not_refused (Err r) = ((λ e. not_both true refl e), (λ e. cc))
 

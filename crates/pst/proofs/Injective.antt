@@ -7,8 +7,10 @@ use Rattle.refusal.specs.declared.Refusal.{Refusal}
 use Rattle.refusal.specs.Number.{number}
 use Rattle.refusal.specs.Order.{Verdict, ◌at◌}
 use Rattle.refusal.proofs.NumberLaws.{refusal_same}
+use Rattle.property.specs.declared.Property.TheVariants as property
 use Rattle.table.specs.declared.Named.{Named}
 use Rattle.table.specs.declared.Named.TheVariants as named
+use Rattle.cells.specs.declared.Cell.TheVariants as cell
 use Rattle.pst.specs.Meaning.{Meaning, answered, absent, refused, refusal_means, verdict_means, header_means, node_means, block_means, sized_means, data_means, span_means, property_means, kind_of, number_of, table_means, column_means, count_means, cell_means, row_means, cells_means}
 use Rattle.std.specs.Prelude.{Option, Some, None, Result, Ok, Err}
 use Rattle.header.specs.declared.Header.{Header}
@@ -20,8 +22,6 @@ use Rattle.property.specs.declared.Property.{Property}
 use Rattle.table.specs.declared.Table.{Table}
 use Rattle.columns.specs.declared.Column.{Column}
 use Rattle.cells.specs.declared.Cell.{Cell}
-use Rattle.cells.specs.declared.Cell.TheVariants.{Empty, Item, Missing, Number, Subnode}
-use Rattle.property.specs.declared.Property.TheVariants.{Empty, Item, Number, Subnode}
 use Rattle.tree.specs.declared.Found.TheVariants.{Absent, Entry}
 
 number_in : Meaning → ℕ
@@ -154,23 +154,23 @@ pub data_injective : (x y : Result (Option ℕ) Refusal) → data_means x ≡ da
 data_injective = injective (Result (Option ℕ) Refusal) data_means read_answer read_told
 
 span_answer : Refusal → Meaning → Result Span Refusal
-span_answer r (answered v) = Ok (record { start = (get_or v 0 0); length = (get_or v 1 0) })
-span_answer r (absent v) = Ok (record { start = (get_or v 0 0); length = (get_or v 1 0) })
+span_answer r (answered v) = Ok (record { start = get_or v 0 0; length = get_or v 1 0 })
+span_answer r (absent v) = Ok (record { start = get_or v 0 0; length = get_or v 1 0 })
 span_answer r (refused n place more) = Err r
 
 span_told : (x : Result Span Refusal) → Told (Result Span Refusal) span_means span_answer x
 unfolding span_means span_answer refusal_part refusal_means
-span_told (Ok (record { start = start; length = length })) = record { refusal = nothing; told = refl; back = refl }
+span_told (Ok span) = record { refusal = nothing; told = refl; back = refl }
 span_told (Err r) = record { refusal = r; told = refl; back = refl }
 
 pub span_injective : (x y : Result Span Refusal) → span_means x ≡ span_means y → x ≡ y
 span_injective = injective (Result Span Refusal) span_means span_answer span_told
 
 property_value : ℕ → ℕ → ℕ → Result (Option Property) Refusal
-property_value type zero value = Ok (Some (Number type value))
-property_value type (suc zero) value = Ok (Some (Empty type))
-property_value type (suc (suc zero)) value = Ok (Some (Item type value))
-property_value type (suc (suc (suc n))) value = Ok (Some (Subnode type value))
+property_value type zero value = Ok (Some (property.Number type value))
+property_value type (suc zero) value = Ok (Some (property.Empty type))
+property_value type (suc (suc zero)) value = Ok (Some (property.Item type value))
+property_value type (suc (suc (suc n))) value = Ok (Some (property.Subnode type value))
 
 property_answer_lem : Refusal → Meaning → Result (Option Property) Refusal
 property_answer_lem r (answered v) = property_value (get_or v 0 0) (get_or v 1 0) (get_or v 2 0)
@@ -179,10 +179,10 @@ property_answer_lem r (refused n place more) = Err r
 
 property_told : (x : Result (Option Property) Refusal) → Told (Result (Option Property) Refusal) property_means property_answer_lem x
 unfolding property_means property_answer_lem refusal_part refusal_means property_value
-property_told (Ok (Some (Number type value))) = record { refusal = nothing; told = refl; back = refl }
-property_told (Ok (Some (Empty type))) = record { refusal = nothing; told = refl; back = refl }
-property_told (Ok (Some (Item type value))) = record { refusal = nothing; told = refl; back = refl }
-property_told (Ok (Some (Subnode type value))) = record { refusal = nothing; told = refl; back = refl }
+property_told (Ok (Some (property.Number type value))) = record { refusal = nothing; told = refl; back = refl }
+property_told (Ok (Some (property.Empty type))) = record { refusal = nothing; told = refl; back = refl }
+property_told (Ok (Some (property.Item type value))) = record { refusal = nothing; told = refl; back = refl }
+property_told (Ok (Some (property.Subnode type value))) = record { refusal = nothing; told = refl; back = refl }
 property_told (Ok None) = record { refusal = nothing; told = refl; back = refl }
 property_told (Err r) = record { refusal = r; told = refl; back = refl }
 
@@ -243,11 +243,11 @@ pub count_injective : (x y : Result ℕ Refusal) → count_means x ≡ count_mea
 count_injective = injective (Result ℕ Refusal) count_means count_answer_lem count_told
 
 cell_value : ℕ → ℕ → Result (Option Cell) Refusal
-cell_value zero value = Ok (Some (Number value))
-cell_value (suc zero) value = Ok (Some Empty)
-cell_value (suc (suc zero)) value = Ok (Some (Item value))
-cell_value (suc (suc (suc zero))) value = Ok (Some (Subnode value))
-cell_value (suc (suc (suc (suc n)))) value = Ok (Some Missing)
+cell_value zero value = Ok (Some (cell.Number value))
+cell_value (suc zero) value = Ok (Some cell.Empty)
+cell_value (suc (suc zero)) value = Ok (Some (cell.Item value))
+cell_value (suc (suc (suc zero))) value = Ok (Some (cell.Subnode value))
+cell_value (suc (suc (suc (suc n)))) value = Ok (Some cell.Missing)
 
 cell_answer_lem : Refusal → Meaning → Result (Option Cell) Refusal
 cell_answer_lem r (answered v) = cell_value (get_or v 0 0) (get_or v 1 0)
@@ -256,11 +256,11 @@ cell_answer_lem r (refused n place more) = Err r
 
 cell_told : (x : Result (Option Cell) Refusal) → Told (Result (Option Cell) Refusal) cell_means cell_answer_lem x
 unfolding cell_means cell_answer_lem refusal_part refusal_means cell_value
-cell_told (Ok (Some (Number value))) = record { refusal = nothing; told = refl; back = refl }
-cell_told (Ok (Some Empty)) = record { refusal = nothing; told = refl; back = refl }
-cell_told (Ok (Some (Item item))) = record { refusal = nothing; told = refl; back = refl }
-cell_told (Ok (Some (Subnode subnode))) = record { refusal = nothing; told = refl; back = refl }
-cell_told (Ok (Some Missing)) = record { refusal = nothing; told = refl; back = refl }
+cell_told (Ok (Some (cell.Number value))) = record { refusal = nothing; told = refl; back = refl }
+cell_told (Ok (Some cell.Empty)) = record { refusal = nothing; told = refl; back = refl }
+cell_told (Ok (Some (cell.Item item))) = record { refusal = nothing; told = refl; back = refl }
+cell_told (Ok (Some (cell.Subnode subnode))) = record { refusal = nothing; told = refl; back = refl }
+cell_told (Ok (Some cell.Missing)) = record { refusal = nothing; told = refl; back = refl }
 cell_told (Ok None) = record { refusal = nothing; told = refl; back = refl }
 cell_told (Err r) = record { refusal = r; told = refl; back = refl }
 

@@ -13,6 +13,8 @@ use Rattle.edition.specs.declared.Layout.{Layout}
 use Rattle.tree.specs.Answers.{shown, as_node, as_block}
 use Rattle.block.proofs.TriedLaws.{sized_verdict}
 use Rattle.node.proofs.TriedLaws.{read_verdict}
+use Rattle.property.specs.declared.Property.TheVariants as property
+use Rattle.cells.specs.declared.Cell.TheVariants as cell
 use Rattle.pst.specs.Meaning.{Meaning, refusal_means, verdict_means, header_means, node_means, block_means, sized_means, data_means, span_means, property_means, table_means, column_means, count_means, cell_means, row_means, cells_means}
 use Rattle.pst.specs.Demands.{Told}
 use Rattle.pst.proofs.Injective.{verdict_injective, header_injective, node_injective, block_injective, sized_injective, data_injective, span_injective, property_injective, table_injective, column_injective, count_injective, cell_injective, row_injective, cells_injective}
@@ -135,12 +137,12 @@ unfolding data_means read_verdict
 data_told x rules tried = told_tried data_means Err data_injective (λ r. refl) read_verdict data_back (λ r. refl) x rules tried
 
 span_verdict_lem : Result Span Refusal → Verdict
-span_verdict_lem (Ok (record { start = start; length = length })) = Ok tt
+span_verdict_lem (Ok span) = Ok tt
 span_verdict_lem (Err r) = Err r
 
 span_back : (x : Result Span Refusal) (r : Refusal) → span_verdict_lem x ≡ Err r → x ≡ Err r
 unfolding span_verdict_lem
-span_back (Ok (record { start = start; length = length })) r e = cc
+span_back (Ok span) r e = cc
 span_back (Err s) r e = cc
 
 span_verdict : (v : Verdict) (start length : ℕ) → v ≡ span_verdict_lem (after Err v (Ok (record { start = start; length = length })))

@@ -46,6 +46,7 @@ use Rattle.heaptree.specs.declared.Branch.{Branch}
 use Rattle.heaptree.specs.Branches.{branch_rules}
 use Rattle.heaptree.specs.Sound.{BranchSound}
 use Rattle.heaptree.proofs.SoundLaws.{branch_exactly}
+use Rattle.property.specs.declared.Property.TheVariants as property
 use Rattle.property.specs.Context.{properties, Context, context_rules, context_test}
 use Rattle.property.specs.Lookup.{property_from, property_rules}
 use Rattle.property.specs.Lookup as lookup
@@ -60,7 +61,6 @@ use Rattle.pst.proofs.Injective.{verdict_injective, header_injective, block_inje
 use Rattle.std.specs.Prelude.{Option, Some, None, Result, Ok, Err}
 use Rattle.refusal.specs.declared.Refusal.{Refusal}
 use Rattle.property.specs.declared.Property.{Property}
-use Rattle.property.specs.declared.Property.TheVariants.{Empty, Item, Number, Subnode}
 use Rattle.tree.specs.declared.Found.TheVariants.{Entry}
 
 both_ways : {A B C : Type 0} → A ↔ B → B ↔ C → A ↔ C
@@ -214,10 +214,10 @@ item_place_holds block item h n = ap span_means (span_taken block item ((item_ex
 -- properties
 not_refused : (p : Result (Option Property) Refusal) → (refuses (property_means p) ≡ false) ↔ (refusal_in p ≡ Ok tt)
 unfolding refuses property_means refusal_means refusal_in
-not_refused (Ok (Some (Number type value))) = ((λ e. refl), (λ e. refl))
-not_refused (Ok (Some (Empty type))) = ((λ e. refl), (λ e. refl))
-not_refused (Ok (Some (Item type item))) = ((λ e. refl), (λ e. refl))
-not_refused (Ok (Some (Subnode type subnode))) = ((λ e. refl), (λ e. refl))
+not_refused (Ok (Some (property.Number type value))) = ((λ e. refl), (λ e. refl))
+not_refused (Ok (Some (property.Empty type))) = ((λ e. refl), (λ e. refl))
+not_refused (Ok (Some (property.Item type item))) = ((λ e. refl), (λ e. refl))
+not_refused (Ok (Some (property.Subnode type subnode))) = ((λ e. refl), (λ e. refl))
 not_refused (Ok None) = ((λ e. refl), (λ e. refl))
 not_refused (Err r) = ((λ e. not_both true refl e), (λ e. cc))
 

@@ -2,8 +2,10 @@
 use Rattle.std.specs.Prelude.{ℕ, Bool, true, false, List, [], ◌∷◌, Option, Some, None, Result, Ok, Err}
 use Rattle.refusal.specs.declared.Refusal.{Refusal}
 use Rattle.refusal.specs.Number.{number}
+use Rattle.property.specs.declared.Property.TheVariants as property
 use Rattle.table.specs.declared.Named.{Named}
 use Rattle.table.specs.declared.Named.TheVariants as named
+use Rattle.cells.specs.declared.Cell.TheVariants as cell
 use Rattle.refusal.specs.Order.{Verdict}
 use Rattle.header.specs.declared.Header.{Header}
 use Rattle.tree.specs.declared.Found.{Found}
@@ -14,8 +16,6 @@ use Rattle.property.specs.declared.Property.{Property}
 use Rattle.table.specs.declared.Table.{Table}
 use Rattle.columns.specs.declared.Column.{Column}
 use Rattle.cells.specs.declared.Cell.{Cell}
-use Rattle.cells.specs.declared.Cell.TheVariants.{Empty, Item, Missing, Number, Subnode}
-use Rattle.property.specs.declared.Property.TheVariants.{Empty, Item, Number, Subnode}
 use Rattle.tree.specs.declared.Found.TheVariants.{Absent, Entry}
 
 -- what an answer says, in document 01's numbers
@@ -72,15 +72,15 @@ data_means (Err r) = refusal_means r
 
 -- start, length
 unfoldable pub span_means : Result Span Refusal → Meaning
-span_means (Ok (record { start = start; length = length })) = answered (start ∷ length ∷ [])
+span_means (Ok span) = answered (span.start ∷ span.length ∷ [])
 span_means (Err r) = refusal_means r
 
 -- type; 0 with a number in place, 1 for an empty value, 2 with an item's number, 3 with a subnode's
 unfoldable pub property_means : Result (Option Property) Refusal → Meaning
-property_means (Ok (Some (Number type value))) = answered (type ∷ 0 ∷ value ∷ [])
-property_means (Ok (Some (Empty type))) = answered (type ∷ 1 ∷ [])
-property_means (Ok (Some (Item type item))) = answered (type ∷ 2 ∷ item ∷ [])
-property_means (Ok (Some (Subnode type subnode))) = answered (type ∷ 3 ∷ subnode ∷ [])
+property_means (Ok (Some (property.Number type value))) = answered (type ∷ 0 ∷ value ∷ [])
+property_means (Ok (Some (property.Empty type))) = answered (type ∷ 1 ∷ [])
+property_means (Ok (Some (property.Item type item))) = answered (type ∷ 2 ∷ item ∷ [])
+property_means (Ok (Some (property.Subnode type subnode))) = answered (type ∷ 3 ∷ subnode ∷ [])
 property_means (Ok None) = absent []
 property_means (Err r) = refusal_means r
 
@@ -113,11 +113,11 @@ count_means (Err r) = refusal_means r
 
 -- 0 with a number, 1 for an empty value, 2 with an item's number, 3 with a subnode's, 4 for a missing cell
 unfoldable pub cell_means : Result (Option Cell) Refusal → Meaning
-cell_means (Ok (Some (Number value))) = answered (0 ∷ value ∷ [])
-cell_means (Ok (Some Empty)) = answered (1 ∷ [])
-cell_means (Ok (Some (Item item))) = answered (2 ∷ item ∷ [])
-cell_means (Ok (Some (Subnode subnode))) = answered (3 ∷ subnode ∷ [])
-cell_means (Ok (Some Missing)) = answered (4 ∷ [])
+cell_means (Ok (Some (cell.Number value))) = answered (0 ∷ value ∷ [])
+cell_means (Ok (Some cell.Empty)) = answered (1 ∷ [])
+cell_means (Ok (Some (cell.Item item))) = answered (2 ∷ item ∷ [])
+cell_means (Ok (Some (cell.Subnode subnode))) = answered (3 ∷ subnode ∷ [])
+cell_means (Ok (Some cell.Missing)) = answered (4 ∷ [])
 cell_means (Ok None) = absent []
 cell_means (Err r) = refusal_means r
 

@@ -5,16 +5,14 @@ ghost use Rattle.std.specs.Prelude.{◌≡◌};
 ghost use Rattle.pst.specs.Meaning.{verdict_means, header_means, node_means, block_means, sized_means, data_means, span_means, property_means, table_means, column_means, count_means, cell_means, row_means, cells_means};
 ghost use Rattle.pst.specs.Outcomes.{header_outcome, nodes_outcome, blocks_outcome, node_outcome, list_outcome, list_area, block_outcome, next_node_outcome, next_block_outcome, test_outcome, read_outcome, read_buffer, data_outcome, data_buffer, code_outcome, encode_buffer, decode_buffer, heap_outcome, test_item_outcome, item_outcome, span_outcome, property_outcome, table_outcome, column_outcome, count_outcome, cell_outcome, row_outcome, row32_outcome, read_row_outcome, read_row_area, checksum_outcome, signature_outcome, room_outcome, room32_outcome};
 
-use block::Sized;
-use cells::{Cell, Counted};
-use header::HeaderAnswer;
+use cells::Cell;
+use columns::Column;
+use header::Header;
 use heap::Span;
-use node::NodeRead;
 use property::Property;
-use refusal::Verdict;
-use rowcells::RowRead;
-use table::{ColumnAnswer, FoundRow, TableAnswer};
-use tree::{FoundBlock, FoundNode};
+use refusal::{Refusal, Verdict};
+use table::Table;
+use tree::{Found, Listed, Node};
 
 // What the header says.
 pub fn header(image: &[u8]) -> Result<Header, Refusal>
@@ -169,7 +167,12 @@ pub fn count_rows<'a>(block: &'a [u8], rows: &'a [u8]) -> Result<u64, Refusal>
 }
 
 // The cell of a row in the column with the tag.
-pub fn cell<'a>(block: &'a [u8], rows: &'a [u8], row: u32, tag: u32) -> Result<Option<Cell>, Refusal>
+pub fn cell<'a>(
+    block: &'a [u8],
+    rows: &'a [u8],
+    row: u32,
+    tag: u32,
+) -> Result<Option<Cell>, Refusal>
     ensures { cell_means result ≡ cell_outcome block.now rows.now row tag }
 {
     cells::cell_of(block, rows, row, tag)
@@ -190,7 +193,12 @@ pub fn find_row32(block: &[u8], id: u32) -> Result<Option<u32>, Refusal>
 }
 
 // All cells of a row, each as by `cell`; of each answer the six words go into its place.
-pub fn read_row<'a>(block: &'a [u8], rows: &'a [u8], row: u32, places: &mut [u64]) -> Result<Option<u64>, Refusal>
+pub fn read_row<'a>(
+    block: &'a [u8],
+    rows: &'a [u8],
+    row: u32,
+    places: &mut [u64],
+) -> Result<Option<u64>, Refusal>
     ensures answer { cells_means result ≡ read_row_outcome block.now rows.now row places.old }
     ensures area { places.new ≡ read_row_area block.now rows.now row places.old }
 {

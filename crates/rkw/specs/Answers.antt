@@ -2,6 +2,7 @@
 use Rattle.std.specs.Prelude.{ℕ, List, get_or, Option, Some, None, Result, Ok, Err}
 use Rattle.refusal.specs.Number.{number}
 use Rattle.nodelist.specs.Places.{node_words}
+use Rattle.property.specs.declared.Property.TheVariants as property
 use Rattle.rkw.specs.declared.RkwVerdict.{RkwVerdict}
 use Rattle.rkw.specs.declared.RkwHeader.{RkwHeader}
 use Rattle.rkw.specs.declared.RkwNode.{RkwNode}
@@ -19,7 +20,6 @@ use Rattle.tree.specs.declared.Node.{Node}
 use Rattle.tree.specs.declared.Listed.{Listed}
 use Rattle.heap.specs.declared.Span.{Span}
 use Rattle.property.specs.declared.Property.{Property}
-use Rattle.property.specs.declared.Property.TheVariants.{Empty, Item, Number, Subnode}
 use Rattle.tree.specs.declared.Found.TheVariants.{Absent, Entry}
 
 unfoldable pub verdict_answer : Verdict → RkwVerdict
@@ -136,7 +136,7 @@ data_answer (Ok None) = record { refusal = 0; place = 0; more = 0; found = 0; le
 data_answer (Err r) = record { refusal = number r.fault; place = r.place; more = r.more; found = 0; length = 0 }
 
 unfoldable pub item_answer : Result Span Refusal → RkwItem
-item_answer (Ok (record { start = start; length = length })) = record { refusal = 0; place = 0; more = 0; start = start; length = length }
+item_answer (Ok item) = record { refusal = 0; place = 0; more = 0; start = item.start; length = item.length }
 item_answer (Err r) = record { refusal = number r.fault; place = r.place; more = r.more; start = 0; length = 0 }
 
 -- a property that is there: its type, the kind of its value, and the value
@@ -149,9 +149,9 @@ no_property refusal place more =
     record { refusal = refusal; place = place; more = more; found = 0; code = 0; kind = 0; value = 0 }
 
 unfoldable pub property_answer : Result (Option Property) Refusal → RkwProperty
-property_answer (Ok (Some (Number type value))) = valued_of type 0 value
-property_answer (Ok (Some (Empty type))) = valued_of type 1 0
-property_answer (Ok (Some (Item type item))) = valued_of type 2 item
-property_answer (Ok (Some (Subnode type subnode))) = valued_of type 3 subnode
+property_answer (Ok (Some (property.Number type value))) = valued_of type 0 value
+property_answer (Ok (Some (property.Empty type))) = valued_of type 1 0
+property_answer (Ok (Some (property.Item type item))) = valued_of type 2 item
+property_answer (Ok (Some (property.Subnode type subnode))) = valued_of type 3 subnode
 property_answer (Ok None) = no_property 0 0 0
 property_answer (Err r) = no_property (number r.fault) r.place r.more

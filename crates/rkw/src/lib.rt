@@ -24,16 +24,14 @@ ghost use Rattle.pst.specs.Meaning.{kind_of, number_of};
 ghost use Rattle.rkw.specs.Tables.{table_answer, no_table, column_answer, no_column, count_answer, cell_answer, valued_cell, no_cell, row_answer, cells_answer};
 ghost use Rattle.rkw.specs.Answers.{verdict_answer, header_answer, node_answer, block_answer, size_answer, length_answer, data_answer, item_answer, property_answer, no_node, no_block, valued_of, no_property};
 
-use block::Sized;
-use cells::{Cell, Counted};
-use header::HeaderAnswer;
+use cells::Cell;
+use columns::Column;
+use header::Header;
 use heap::Span;
-use node::NodeRead;
 use property::Property;
 use refusal::{Refusal, Verdict};
-use rowcells::RowRead;
-use table::{ColumnAnswer, FoundRow, Named, TableAnswer};
-use tree::{FoundBlock, FoundNode};
+use table::{Named, Table};
+use tree::{Found, Listed, Node};
 
 #[repr(C)]
 #[derive(Clone, Copy)]
@@ -400,12 +398,12 @@ fn item_answer(answer: Result<Span, Refusal>) -> RkwItem
     ensures { result ≡ item_answer answer }
 {
     match answer {
-        Ok(Span { start: start, length: length }) => RkwItem {
+        Ok(item) => RkwItem {
             refusal: 0,
             place: 0,
             more: 0,
-            start: start as u64,
-            length: length as u64,
+            start: item.start as u64,
+            length: item.length as u64,
         },
         Err(r) => RkwItem {
             refusal: number_in(r),
