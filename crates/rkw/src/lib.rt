@@ -208,71 +208,77 @@ fn number_in(refusal: Refusal) -> u64
     refusal::number_of(fault) as u64
 }
 
-fn verdict_answer(answer: Verdict) -> RkwVerdict
-    ensures { result ≡ verdict_answer answer }
-{
-    match answer {
-        Ok(()) => RkwVerdict {
-            refusal: 0,
-            place: 0,
-            more: 0,
-        },
-        Err(r) => RkwVerdict {
-            refusal: number_in(r),
-            place: r.place,
-            more: r.more,
-        },
+impl From<Verdict> for RkwVerdict {
+    ghost from_gives = { λ answer r. r ≡ verdict_answer answer };
+
+    fn from(answer: Verdict) -> RkwVerdict {
+        match answer {
+            Ok(()) => RkwVerdict {
+                refusal: 0,
+                place: 0,
+                more: 0,
+            },
+            Err(r) => RkwVerdict {
+                refusal: number_in(r),
+                place: r.place,
+                more: r.more,
+            },
+        }
     }
 }
 
-fn header_answer(answer: Result<Header, Refusal>) -> RkwHeader
-    ensures { result ≡ header_answer answer }
-{
-    match answer {
-        Ok(h) => RkwHeader {
-            refusal: 0,
-            place: 0,
-            more: 0,
-            method: h.method as u64,
-            nodes_number: h.nodes.number,
-            nodes_offset: h.nodes.offset,
-            blocks_number: h.blocks.number,
-            blocks_offset: h.blocks.offset,
-            end: h.end,
-            edition: h.edition,
-        },
-        Err(r) => RkwHeader {
-            refusal: number_in(r),
-            place: r.place,
-            more: r.more,
-            method: 0,
-            nodes_number: 0,
-            nodes_offset: 0,
-            blocks_number: 0,
-            blocks_offset: 0,
-            end: 0,
-            edition: 0,
-        },
+impl From<Result<Header, Refusal>> for RkwHeader {
+    ghost from_gives = { λ answer r. r ≡ header_answer answer };
+
+    fn from(answer: Result<Header, Refusal>) -> RkwHeader {
+        match answer {
+            Ok(h) => RkwHeader {
+                refusal: 0,
+                place: 0,
+                more: 0,
+                method: h.method as u64,
+                nodes_number: h.nodes.number,
+                nodes_offset: h.nodes.offset,
+                blocks_number: h.blocks.number,
+                blocks_offset: h.blocks.offset,
+                end: h.end,
+                edition: h.edition,
+            },
+            Err(r) => RkwHeader {
+                refusal: number_in(r),
+                place: r.place,
+                more: r.more,
+                method: 0,
+                nodes_number: 0,
+                nodes_offset: 0,
+                blocks_number: 0,
+                blocks_offset: 0,
+                end: 0,
+                edition: 0,
+            },
+        }
     }
 }
 
-fn node_answer(answer: Result<Found<Node>, Refusal>) -> RkwNode
-    ensures { result ≡ node_answer answer }
-{
-    match answer {
-        Ok(Found::Entry(n, pages)) => RkwNode {
-            refusal: 0,
-            place: 0,
-            more: 0,
-            found: 1,
-            pages,
-            node: n.node,
-            data: n.block,
-            subnode: n.subnode,
-            parent: n.parent,
-        },
-        Ok(Found::Absent(pages)) => no_node(0, 0, 0, pages),
-        Err(r) => no_node(number_in(r), r.place, r.more, 0),
+impl From<Result<Found<Node>, Refusal>> for RkwNode {
+    ghost from_gives = { λ answer r. r ≡ node_answer answer };
+
+    fn from(answer: Result<Found<Node>, Refusal>) -> RkwNode {
+        match answer {
+            Ok(Found::Entry(n, pages)) => RkwNode {
+                refusal: 0,
+                place: 0,
+                more: 0,
+                found: 1,
+                pages,
+                node: n.node,
+                data: n.block,
+                subnode: n.subnode,
+                parent: n.parent,
+            },
+            Ok(Found::Absent(pages)) => no_node(0, 0, 0, pages),
+            Err(r) => no_node(number_in(r), r.place, r.more, 0),
+        }
     }
 }
 
@@ -292,23 +298,25 @@ fn no_node(refusal: u64, place: u64, more: u64, pages: u64) -> RkwNode
     }
 }
 
-fn block_answer(answer: Result<Found<Listed>, Refusal>) -> RkwBlock
-    ensures { result ≡ block_answer answer }
-{
-    match answer {
-        Ok(Found::Entry(b, pages)) => RkwBlock {
-            refusal: 0,
-            place: 0,
-            more: 0,
-            found: 1,
-            pages,
-            block: b.block,
-            offset: b.offset,
-            size: b.size,
-            references: b.references,
-        },
-        Ok(Found::Absent(pages)) => no_block(0, 0, 0, pages),
-        Err(r) => no_block(number_in(r), r.place, r.more, 0),
+impl From<Result<Found<Listed>, Refusal>> for RkwBlock {
+    ghost from_gives = { λ answer r. r ≡ block_answer answer };
+
+    fn from(answer: Result<Found<Listed>, Refusal>) -> RkwBlock {
+        match answer {
+            Ok(Found::Entry(b, pages)) => RkwBlock {
+                refusal: 0,
+                place: 0,
+                more: 0,
+                found: 1,
+                pages,
+                block: b.block,
+                offset: b.offset,
+                size: b.size,
+                references: b.references,
+            },
+            Ok(Found::Absent(pages)) => no_block(0, 0, 0, pages),
+            Err(r) => no_block(number_in(r), r.place, r.more, 0),
+        }
     }
 }
 
@@ -328,90 +336,98 @@ fn no_block(refusal: u64, place: u64, more: u64, pages: u64) -> RkwBlock
     }
 }
 
-fn size_answer(answer: Result<u64, Refusal>) -> RkwSize
-    ensures { result ≡ size_answer answer }
-{
-    match answer {
-        Ok(size) => RkwSize {
-            refusal: 0,
-            place: 0,
-            more: 0,
-            size,
-        },
-        Err(r) => RkwSize {
-            refusal: number_in(r),
-            place: r.place,
-            more: r.more,
-            size: 0,
-        },
+impl From<Result<u64, Refusal>> for RkwSize {
+    ghost from_gives = { λ answer r. r ≡ size_answer answer };
+
+    fn from(answer: Result<u64, Refusal>) -> RkwSize {
+        match answer {
+            Ok(size) => RkwSize {
+                refusal: 0,
+                place: 0,
+                more: 0,
+                size,
+            },
+            Err(r) => RkwSize {
+                refusal: number_in(r),
+                place: r.place,
+                more: r.more,
+                size: 0,
+            },
+        }
     }
 }
 
-fn length_answer(answer: Result<u64, Refusal>) -> RkwLength
-    ensures { result ≡ length_answer answer }
-{
-    match answer {
-        Ok(length) => RkwLength {
-            refusal: 0,
-            place: 0,
-            more: 0,
-            length,
-        },
-        Err(r) => RkwLength {
-            refusal: number_in(r),
-            place: r.place,
-            more: r.more,
-            length: 0,
-        },
+impl From<Result<u64, Refusal>> for RkwLength {
+    ghost from_gives = { λ answer r. r ≡ length_answer answer };
+
+    fn from(answer: Result<u64, Refusal>) -> RkwLength {
+        match answer {
+            Ok(length) => RkwLength {
+                refusal: 0,
+                place: 0,
+                more: 0,
+                length,
+            },
+            Err(r) => RkwLength {
+                refusal: number_in(r),
+                place: r.place,
+                more: r.more,
+                length: 0,
+            },
+        }
     }
 }
 
-fn data_answer(answer: Result<Option<u64>, Refusal>) -> RkwData
-    ensures { result ≡ data_answer answer }
-{
-    match answer {
-        Ok(Some(length)) => RkwData {
-            refusal: 0,
-            place: 0,
-            more: 0,
-            found: 1,
-            length,
-        },
-        Ok(None) => RkwData {
-            refusal: 0,
-            place: 0,
-            more: 0,
-            found: 0,
-            length: 0,
-        },
-        Err(r) => RkwData {
-            refusal: number_in(r),
-            place: r.place,
-            more: r.more,
-            found: 0,
-            length: 0,
-        },
+impl From<Result<Option<u64>, Refusal>> for RkwData {
+    ghost from_gives = { λ answer r. r ≡ data_answer answer };
+
+    fn from(answer: Result<Option<u64>, Refusal>) -> RkwData {
+        match answer {
+            Ok(Some(length)) => RkwData {
+                refusal: 0,
+                place: 0,
+                more: 0,
+                found: 1,
+                length,
+            },
+            Ok(None) => RkwData {
+                refusal: 0,
+                place: 0,
+                more: 0,
+                found: 0,
+                length: 0,
+            },
+            Err(r) => RkwData {
+                refusal: number_in(r),
+                place: r.place,
+                more: r.more,
+                found: 0,
+                length: 0,
+            },
+        }
     }
 }
 
-fn item_answer(answer: Result<Span, Refusal>) -> RkwItem
-    ensures { result ≡ item_answer answer }
-{
-    match answer {
-        Ok(item) => RkwItem {
-            refusal: 0,
-            place: 0,
-            more: 0,
-            start: item.start as u64,
-            length: item.length as u64,
-        },
-        Err(r) => RkwItem {
-            refusal: number_in(r),
-            place: r.place,
-            more: r.more,
-            start: 0,
-            length: 0,
-        },
+impl From<Result<Span, Refusal>> for RkwItem {
+    ghost from_gives = { λ answer r. r ≡ item_answer answer };
+
+    fn from(answer: Result<Span, Refusal>) -> RkwItem {
+        match answer {
+            Ok(item) => RkwItem {
+                refusal: 0,
+                place: 0,
+                more: 0,
+                start: item.start as u64,
+                length: item.length as u64,
+            },
+            Err(r) => RkwItem {
+                refusal: number_in(r),
+                place: r.place,
+                more: r.more,
+                start: 0,
+                length: 0,
+            },
+        }
     }
 }
 
@@ -444,16 +460,18 @@ fn no_property(refusal: u64, place: u64, more: u64) -> RkwProperty
     }
 }
 
-fn property_answer(answer: Result<Option<Property>, Refusal>) -> RkwProperty
-    ensures { result ≡ property_answer answer }
-{
-    match answer {
-        Ok(Some(Property::Number(code, value))) => valued(code, 0, value),
-        Ok(Some(Property::Empty(code))) => valued(code, 1, 0),
-        Ok(Some(Property::Item(code, item))) => valued(code, 2, item),
-        Ok(Some(Property::Subnode(code, subnode))) => valued(code, 3, subnode),
-        Ok(None) => no_property(0, 0, 0),
-        Err(r) => no_property(number_in(r), r.place, r.more),
+impl From<Result<Option<Property>, Refusal>> for RkwProperty {
+    ghost from_gives = { λ answer r. r ≡ property_answer answer };
+
+    fn from(answer: Result<Option<Property>, Refusal>) -> RkwProperty {
+        match answer {
+            Ok(Some(Property::Number(code, value))) => valued(code, 0, value),
+            Ok(Some(Property::Empty(code))) => valued(code, 1, 0),
+            Ok(Some(Property::Item(code, item))) => valued(code, 2, item),
+            Ok(Some(Property::Subnode(code, subnode))) => valued(code, 3, subnode),
+            Ok(None) => no_property(0, 0, 0),
+            Err(r) => no_property(number_in(r), r.place, r.more),
+        }
     }
 }
 
@@ -477,24 +495,26 @@ fn number_of(named: Named) -> u64
     }
 }
 
-fn table_answer(answer: Result<Table, Refusal>) -> RkwTable
-    ensures { result ≡ table_answer answer }
-{
-    match answer {
-        Ok(t) => {
-            let rows = t.rows;
-            RkwTable {
-                refusal: 0,
-                place: 0,
-                more: 0,
-                columns: t.columns,
-                row_size: t.size,
-                existence: t.existence,
-                rows_kind: kind_of(rows),
-                rows_value: number_of(rows),
+impl From<Result<Table, Refusal>> for RkwTable {
+    ghost from_gives = { λ answer r. r ≡ table_answer answer };
+
+    fn from(answer: Result<Table, Refusal>) -> RkwTable {
+        match answer {
+            Ok(t) => {
+                let rows = t.rows;
+                RkwTable {
+                    refusal: 0,
+                    place: 0,
+                    more: 0,
+                    columns: t.columns,
+                    row_size: t.size,
+                    existence: t.existence,
+                    rows_kind: kind_of(rows),
+                    rows_value: number_of(rows),
+                }
             }
+            Err(r) => no_table(number_in(r), r.place, r.more),
         }
-        Err(r) => no_table(number_in(r), r.place, r.more),
     }
 }
 
@@ -528,41 +548,45 @@ fn no_column(refusal: u64, place: u64, more: u64) -> RkwColumn
     }
 }
 
-fn column_answer(answer: Result<Option<Column>, Refusal>) -> RkwColumn
-    ensures { result ≡ column_answer answer }
-{
-    match answer {
-        Ok(Some(c)) => RkwColumn {
-            refusal: 0,
-            place: 0,
-            more: 0,
-            found: 1,
-            tag: c.tag as u64,
-            offset: c.offset as u64,
-            width: c.width as u64,
-            bit: c.bit as u64,
-        },
-        Ok(None) => no_column(0, 0, 0),
-        Err(r) => no_column(number_in(r), r.place, r.more),
+impl From<Result<Option<Column>, Refusal>> for RkwColumn {
+    ghost from_gives = { λ answer r. r ≡ column_answer answer };
+
+    fn from(answer: Result<Option<Column>, Refusal>) -> RkwColumn {
+        match answer {
+            Ok(Some(c)) => RkwColumn {
+                refusal: 0,
+                place: 0,
+                more: 0,
+                found: 1,
+                tag: c.tag as u64,
+                offset: c.offset as u64,
+                width: c.width as u64,
+                bit: c.bit as u64,
+            },
+            Ok(None) => no_column(0, 0, 0),
+            Err(r) => no_column(number_in(r), r.place, r.more),
+        }
     }
 }
 
-fn count_answer(answer: Result<u64, Refusal>) -> RkwCount
-    ensures { result ≡ count_answer answer }
-{
-    match answer {
-        Ok(rows) => RkwCount {
-            refusal: 0,
-            place: 0,
-            more: 0,
-            rows,
-        },
-        Err(r) => RkwCount {
-            refusal: number_in(r),
-            place: r.place,
-            more: r.more,
-            rows: 0,
-        },
+impl From<Result<u64, Refusal>> for RkwCount {
+    ghost from_gives = { λ answer r. r ≡ count_answer answer };
+
+    fn from(answer: Result<u64, Refusal>) -> RkwCount {
+        match answer {
+            Ok(rows) => RkwCount {
+                refusal: 0,
+                place: 0,
+                more: 0,
+                rows,
+            },
+            Err(r) => RkwCount {
+                refusal: number_in(r),
+                place: r.place,
+                more: r.more,
+                rows: 0,
+            },
+        }
     }
 }
 
@@ -593,73 +617,79 @@ fn no_cell(refusal: u64, place: u64, more: u64) -> RkwCell
     }
 }
 
-fn cell_answer(answer: Result<Option<Cell>, Refusal>) -> RkwCell
-    ensures { result ≡ cell_answer answer }
-{
-    match answer {
-        Ok(Some(Cell::Number(value))) => valued_cell(0, value),
-        Ok(Some(Cell::Empty)) => valued_cell(1, 0),
-        Ok(Some(Cell::Item(item))) => valued_cell(2, item as u64),
-        Ok(Some(Cell::Subnode(subnode))) => valued_cell(3, subnode as u64),
-        Ok(Some(Cell::Missing)) => valued_cell(4, 0),
-        Ok(None) => no_cell(0, 0, 0),
-        Err(r) => no_cell(number_in(r), r.place, r.more),
+impl From<Result<Option<Cell>, Refusal>> for RkwCell {
+    ghost from_gives = { λ answer r. r ≡ cell_answer answer };
+
+    fn from(answer: Result<Option<Cell>, Refusal>) -> RkwCell {
+        match answer {
+            Ok(Some(Cell::Number(value))) => valued_cell(0, value),
+            Ok(Some(Cell::Empty)) => valued_cell(1, 0),
+            Ok(Some(Cell::Item(item))) => valued_cell(2, item as u64),
+            Ok(Some(Cell::Subnode(subnode))) => valued_cell(3, subnode as u64),
+            Ok(Some(Cell::Missing)) => valued_cell(4, 0),
+            Ok(None) => no_cell(0, 0, 0),
+            Err(r) => no_cell(number_in(r), r.place, r.more),
+        }
     }
 }
 
-fn row_answer(answer: Result<Option<u32>, Refusal>) -> RkwRow
-    ensures { result ≡ row_answer answer }
-{
-    match answer {
-        Ok(Some(row)) => RkwRow {
-            refusal: 0,
-            place: 0,
-            more: 0,
-            found: 1,
-            row: row as u64,
-        },
-        Ok(None) => RkwRow {
-            refusal: 0,
-            place: 0,
-            more: 0,
-            found: 0,
-            row: 0,
-        },
-        Err(r) => RkwRow {
-            refusal: number_in(r),
-            place: r.place,
-            more: r.more,
-            found: 0,
-            row: 0,
-        },
+impl From<Result<Option<u32>, Refusal>> for RkwRow {
+    ghost from_gives = { λ answer r. r ≡ row_answer answer };
+
+    fn from(answer: Result<Option<u32>, Refusal>) -> RkwRow {
+        match answer {
+            Ok(Some(row)) => RkwRow {
+                refusal: 0,
+                place: 0,
+                more: 0,
+                found: 1,
+                row: row as u64,
+            },
+            Ok(None) => RkwRow {
+                refusal: 0,
+                place: 0,
+                more: 0,
+                found: 0,
+                row: 0,
+            },
+            Err(r) => RkwRow {
+                refusal: number_in(r),
+                place: r.place,
+                more: r.more,
+                found: 0,
+                row: 0,
+            },
+        }
     }
 }
 
-fn cells_answer(answer: Result<Option<u64>, Refusal>) -> RkwCells
-    ensures { result ≡ cells_answer answer }
-{
-    match answer {
-        Ok(Some(cells)) => RkwCells {
-            refusal: 0,
-            place: 0,
-            more: 0,
-            found: 1,
-            cells,
-        },
-        Ok(None) => RkwCells {
-            refusal: 0,
-            place: 0,
-            more: 0,
-            found: 0,
-            cells: 0,
-        },
-        Err(r) => RkwCells {
-            refusal: number_in(r),
-            place: r.place,
-            more: r.more,
-            found: 0,
-            cells: 0,
-        },
+impl From<Result<Option<u64>, Refusal>> for RkwCells {
+    ghost from_gives = { λ answer r. r ≡ cells_answer answer };
+
+    fn from(answer: Result<Option<u64>, Refusal>) -> RkwCells {
+        match answer {
+            Ok(Some(cells)) => RkwCells {
+                refusal: 0,
+                place: 0,
+                more: 0,
+                found: 1,
+                cells,
+            },
+            Ok(None) => RkwCells {
+                refusal: 0,
+                place: 0,
+                more: 0,
+                found: 0,
+                cells: 0,
+            },
+            Err(r) => RkwCells {
+                refusal: number_in(r),
+                place: r.place,
+                more: r.more,
+                found: 0,
+                cells: 0,
+            },
+        }
     }
 }
 
@@ -667,28 +697,28 @@ fn cells_answer(answer: Result<Option<u64>, Refusal>) -> RkwCells
 pub extern "C" fn rkw_header(image: &[u8]) -> RkwHeader
     ensures { result ≡ header_answer (header_of image.now) }
 {
-    header_answer(pst::header(image))
+    RkwHeader::from(pst::header(image))
 }
 
 #[unsafe(no_mangle)]
 pub extern "C" fn rkw_check_nodes(image: &[u8]) -> RkwVerdict
     ensures { result ≡ verdict_answer (tree_fits (nodes_of image.now) image.now) }
 {
-    verdict_answer(pst::check_nodes(image))
+    RkwVerdict::from(pst::check_nodes(image))
 }
 
 #[unsafe(no_mangle)]
 pub extern "C" fn rkw_check_blocks(image: &[u8]) -> RkwVerdict
     ensures { result ≡ verdict_answer (tree_fits (blocks_of image.now) image.now) }
 {
-    verdict_answer(pst::check_blocks(image))
+    RkwVerdict::from(pst::check_blocks(image))
 }
 
 #[unsafe(no_mangle)]
 pub extern "C" fn rkw_find_node(image: &[u8], node: u64) -> RkwNode
     ensures { result ≡ node_answer (node_of (nodes_of image.now) image.now node) }
 {
-    node_answer(pst::find_node(image, node))
+    RkwNode::from(pst::find_node(image, node))
 }
 
 #[unsafe(no_mangle)]
@@ -696,35 +726,35 @@ pub extern "C" fn rkw_find_nodes(image: &[u8], nodes: &[u64], places: &mut [u64]
     ensures answer { result ≡ verdict_answer (list_fits (length nodes.now) (length places.old)) }
     ensures area { places.new ≡ area_of (nodes_of image.now) image.now nodes.now places.old }
 {
-    verdict_answer(pst::find_nodes(image, nodes, places))
+    RkwVerdict::from(pst::find_nodes(image, nodes, places))
 }
 
 #[unsafe(no_mangle)]
 pub extern "C" fn rkw_find_block(image: &[u8], block: u64) -> RkwBlock
     ensures { result ≡ block_answer (block_of (blocks_of image.now) image.now block) }
 {
-    block_answer(pst::find_block(image, block))
+    RkwBlock::from(pst::find_block(image, block))
 }
 
 #[unsafe(no_mangle)]
 pub extern "C" fn rkw_next_node(image: &[u8], from: u64) -> RkwNode
     ensures { result ≡ node_answer (next_node_of (nodes_of image.now) image.now from) }
 {
-    node_answer(pst::next_node(image, from))
+    RkwNode::from(pst::next_node(image, from))
 }
 
 #[unsafe(no_mangle)]
 pub extern "C" fn rkw_next_block(image: &[u8], from: u64) -> RkwBlock
     ensures { result ≡ block_answer (next_block_of (blocks_of image.now) image.now from) }
 {
-    block_answer(pst::next_block(image, from))
+    RkwBlock::from(pst::next_block(image, from))
 }
 
 #[unsafe(no_mangle)]
 pub extern "C" fn rkw_test_block(image: &[u8], block: u64) -> RkwSize
     ensures { result ≡ size_answer (test_of (edition_of image.now) image.now block) }
 {
-    size_answer(pst::test_block(image, block))
+    RkwSize::from(pst::test_block(image, block))
 }
 
 #[unsafe(no_mangle)]
@@ -732,7 +762,7 @@ pub extern "C" fn rkw_read_block(image: &[u8], block: u64, out: &mut [u8]) -> Rk
     ensures answer { result ≡ length_answer (read_of (edition_of image.now) image.now block (length out.old)) }
     ensures buffer { out.new ≡ filled_of (edition_of image.now) image.now block out.old }
 {
-    length_answer(pst::read_block(image, block, out))
+    RkwLength::from(pst::read_block(image, block, out))
 }
 
 #[unsafe(no_mangle)]
@@ -740,7 +770,7 @@ pub extern "C" fn rkw_read_node(image: &[u8], node: u64, out: &mut [u8]) -> RkwD
     ensures answer { result ≡ data_answer (answer_to (node_content (edition_of image.now) image.now node) (length out.old)) }
     ensures buffer { out.new ≡ filled_by (node_content (edition_of image.now) image.now node) out.old }
 {
-    data_answer(pst::read_node(image, node, out))
+    RkwData::from(pst::read_node(image, node, out))
 }
 
 #[unsafe(no_mangle)]
@@ -748,7 +778,7 @@ pub extern "C" fn rkw_encode(method: u8, block: u64, bytes: &mut [u8]) -> RkwVer
     ensures answer { result ≡ verdict_answer (method_fits method) }
     ensures buffer { bytes.new ≡ encoded method block bytes.old }
 {
-    verdict_answer(pst::encode(method, block, bytes))
+    RkwVerdict::from(pst::encode(method, block, bytes))
 }
 
 #[unsafe(no_mangle)]
@@ -756,77 +786,77 @@ pub extern "C" fn rkw_decode(method: u8, block: u64, bytes: &mut [u8]) -> RkwVer
     ensures answer { result ≡ verdict_answer (method_fits method) }
     ensures buffer { bytes.new ≡ decoded method block bytes.old }
 {
-    verdict_answer(pst::decode(method, block, bytes))
+    RkwVerdict::from(pst::decode(method, block, bytes))
 }
 
 #[unsafe(no_mangle)]
 pub extern "C" fn rkw_test_heap(block: &[u8]) -> RkwVerdict
     ensures { result ≡ verdict_answer (heap_test block.now) }
 {
-    verdict_answer(pst::test_heap(block))
+    RkwVerdict::from(pst::test_heap(block))
 }
 
 #[unsafe(no_mangle)]
 pub extern "C" fn rkw_test_item(block: &[u8], item: u32) -> RkwVerdict
     ensures { result ≡ verdict_answer (item_test block.now item) }
 {
-    verdict_answer(pst::test_item(block, item))
+    RkwVerdict::from(pst::test_item(block, item))
 }
 
 #[unsafe(no_mangle)]
 pub extern "C" fn rkw_item(block: &[u8], item: u32) -> RkwItem
     ensures { result ≡ item_answer (item_span block.now item) }
 {
-    item_answer(pst::find_item(block, item))
+    RkwItem::from(pst::find_item(block, item))
 }
 
 #[unsafe(no_mangle)]
 pub extern "C" fn rkw_find_property(block: &[u8], id: u16) -> RkwProperty
     ensures { result ≡ property_answer (property_in block.now id) }
 {
-    property_answer(pst::find_property(block, id))
+    RkwProperty::from(pst::find_property(block, id))
 }
 
 #[unsafe(no_mangle)]
 pub extern "C" fn rkw_table(block: &[u8]) -> RkwTable
     ensures { result ≡ table_answer (table_of block.now) }
 {
-    table_answer(pst::table(block))
+    RkwTable::from(pst::table(block))
 }
 
 #[unsafe(no_mangle)]
 pub extern "C" fn rkw_column(block: &[u8], index: u32) -> RkwColumn
     ensures { result ≡ column_answer (column_of block.now index) }
 {
-    column_answer(pst::column(block, index))
+    RkwColumn::from(pst::column(block, index))
 }
 
 #[unsafe(no_mangle)]
 pub extern "C" fn rkw_count_rows<'a>(block: &'a [u8], rows: &'a [u8]) -> RkwCount
     ensures { result ≡ count_answer (count_of block.now rows.now) }
 {
-    count_answer(pst::count_rows(block, rows))
+    RkwCount::from(pst::count_rows(block, rows))
 }
 
 #[unsafe(no_mangle)]
 pub extern "C" fn rkw_cell<'a>(block: &'a [u8], rows: &'a [u8], row: u32, tag: u32) -> RkwCell
     ensures { result ≡ cell_answer (cell_of block.now rows.now row tag) }
 {
-    cell_answer(pst::cell(block, rows, row, tag))
+    RkwCell::from(pst::cell(block, rows, row, tag))
 }
 
 #[unsafe(no_mangle)]
 pub extern "C" fn rkw_find_row(block: &[u8], id: u32) -> RkwRow
     ensures { result ≡ row_answer (row_of row_index block.now id) }
 {
-    row_answer(pst::find_row(block, id))
+    RkwRow::from(pst::find_row(block, id))
 }
 
 #[unsafe(no_mangle)]
 pub extern "C" fn rkw_find_row32(block: &[u8], id: u32) -> RkwRow
     ensures { result ≡ row_answer (row_of row_index32 block.now id) }
 {
-    row_answer(pst::find_row32(block, id))
+    RkwRow::from(pst::find_row32(block, id))
 }
 
 #[unsafe(no_mangle)]
@@ -839,7 +869,7 @@ pub extern "C" fn rkw_read_row<'a>(
     ensures answer { result ≡ cells_answer (row_read block.now rows.now row (length places.old)) }
     ensures area { places.new ≡ row_area block.now rows.now row places.old }
 {
-    cells_answer(pst::read_row(block, rows, row, places))
+    RkwCells::from(pst::read_row(block, rows, row, places))
 }
 
 #[unsafe(no_mangle)]
