@@ -32,41 +32,14 @@ loop-i-init c =
     let a = c.args in
     (omega arith, refl, c.check_start-start.ensures, leads_nowhere a.l a.image.now _ _ _ _, refl)
 
-pub offset_bounds-nodes-i : goal.offset_bounds-nodes-i
-offset_bounds-nodes-i c = omega arith
-
-pub bounds-nodes-i : goal.bounds-nodes-i
-bounds-nodes-i c = omega arith
-
-pub overflow_mul-at : goal.overflow_mul-at
-overflow_mul-at c = omega arith
-
 pub way_to-way-requires : goal.way_to-way-requires
 way_to-way-requires c = (c.requires.0, c.loop-i.invariant.2, c.loop-i.invariant.3)
 
 pub node_at-requires : goal.node_at-requires
 node_at-requires c = (c.requires.0, c.way_to-way.ensures.1, c.way_to-way.ensures.0)
 
-pub offset_bounds-places-at : goal.offset_bounds-places-at
-offset_bounds-places-at c = omega arith
-
-pub slice_bounds-put_answer-count : goal.slice_bounds-put_answer-count
-slice_bounds-put_answer-count c = omega arith
-
-pub slice_bounds-put_answer-start : goal.slice_bounds-put_answer-start
-slice_bounds-put_answer-start c = omega arith
-
-pub slice_bounds-put_answer-end : goal.slice_bounds-put_answer-end
-slice_bounds-put_answer-end c = omega arith
-
 pub put_answer-requires : goal.put_answer-requires
 put_answer-requires c = simp (length-take, length-drop) (omega arith)
-
-pub overflow_add-i : goal.overflow_add-i
-overflow_add-i c = omega arith
-
-pub loop-i-smaller : goal.loop-i-smaller
-loop-i-smaller c = omega arith
 
 pub loop-i-preserved : goal.loop-i-preserved
 loop-i-preserved c =

@@ -11,5 +11,3 @@ invariant-loop-i l =
     (l.i ≤ length l.nodes) × (length l.places ≡ length l.initial.places) × (l.start ≡ start_fits l.l l.image) × FromRoot l.l l.image l.way
     × (l.places ≡ fronted (places_of l.l l.image (take l.i l.nodes)) l.initial.places)
 
-abbrev pub decreases-loop-i : goal.decreases-loop-i
-decreases-loop-i l = length l.nodes - l.i

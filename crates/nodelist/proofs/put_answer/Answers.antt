@@ -1,15 +1,15 @@
-use mathlib.Core.Path.{◌∙◌}
+use Rattle.std.proofs.Common.{rules}
 use Rattle.nodelist.specs.Places.{node_words}
 use Rattle.nodelist.proofs.put_answer.Goals as goal
 
-pub returns-in-Found : goal.returns-in-Found
+pub returns-in-Ok-Entry : goal.returns-in-Ok-Entry
 unfolding node_words
-returns-in-Found c = c.put_words.ensures ∙ rw c.in-Found.is
+returns-in-Ok-Entry c = search rules
 
-pub returns-in-Absent : goal.returns-in-Absent
+pub returns-in-Ok-Absent : goal.returns-in-Ok-Absent
 unfolding node_words
-returns-in-Absent c = c.put_words-in-Absent.ensures ∙ rw c.in-Absent.is
+returns-in-Ok-Absent c = search rules
 
 pub returns-in-Err : goal.returns-in-Err
 unfolding node_words
-returns-in-Err c = c.put_words-in-Err.ensures ∙ rw (c.in-Err.is, c.number_of-number.ensures)
+returns-in-Err c = search rules
