@@ -1,9 +1,8 @@
 // A list of nodes, looked up in one call.
 #![tactic(auto)]
 
-ghost use Rattle.std.specs.Prelude.{◌≡◌, ◌∷◌, ◌*◌, ◌≤◌, length, drop};
+ghost use Rattle.std.specs.Prelude.{◌≡◌, ◌*◌, ◌≤◌, length};
 ghost use Rattle.laws.specs.Front.{fronted};
-ghost use Rattle.refusal.specs.Order.{◌needing◌};
 ghost use Rattle.edition.specs.Fair.{FairLayout};
 ghost use Rattle.nodelist.specs.Places.{node_words, places_of, list_fits, area_of};
 
@@ -11,41 +10,16 @@ use edition::Layout;
 use refusal::{Fault, Refusal, Verdict};
 use tree::{Found, Node};
 
-// The nine words of a place, written one by one.
-fn put_words(
-    refusal: u64,
-    place: u64,
-    more: u64,
-    found: u64,
-    pages: u64,
-    n: Node,
-    words: &mut [u64],
-)
-    requires { 9 ≤ length words.old }
-    ensures { words.new ≡ refusal ∷ place ∷ more ∷ found ∷ pages ∷ n.node ∷ n.block ∷ n.subnode ∷ n.parent ∷ drop 9 words.old }
+// An answer as the nine words of a place.
+fn words_of(answer: Result<Found<Node>, Refusal>) -> [u64; 9]
+    ensures { result ≡ node_words answer }
 {
-    words[..9].copy_from_slice(&[
-        refusal, place, more, found, pages, n.node, n.block, n.subnode, n.parent,
-    ]);
-}
-
-// An answer at the front of the words.
-fn put_answer(answer: Result<Found<Node>, Refusal>, words: &mut [u64])
-    requires { 9 ≤ length words.old }
-    ensures { words.new ≡ fronted (node_words answer) words.old }
-{
-    let none = Node {
-        node: 0,
-        block: 0,
-        subnode: 0,
-        parent: 0,
-    };
     match answer {
-        Ok(Found::Entry(n, pages)) => put_words(0, 0, 0, 1, pages, n, words),
-        Ok(Found::Absent(pages)) => put_words(0, 0, 0, 0, pages, none, words),
+        Ok(Found::Entry(n, pages)) => [0, 0, 0, 1, pages, n.node, n.block, n.subnode, n.parent],
+        Ok(Found::Absent(pages)) => [0, 0, 0, 0, pages, 0, 0, 0, 0],
         Err(r) => {
             let number = u64::from(refusal::number_of(r.fault));
-            put_words(number, r.place, r.more, 0, 0, none, words)
+            [number, r.place, r.more, 0, 0, 0, 0, 0, 0]
         }
     }
 }
@@ -60,7 +34,8 @@ fn fill(image: &[u8], l: Layout, nodes: &[u64], places: &mut [u64])
     let mut way = Ok(Found::Absent(0));
     for (i, node) in nodes.iter().enumerate() {
         way = tree::way_to(image, l, start, way, *node);
-        put_answer(tree::node_at(image, l, way, *node), &mut places[9 * i..]);
+        let words = words_of(tree::node_at(image, l, way, *node));
+        places[9 * i..9 * i + 9].copy_from_slice(&words);
     }
 }
 

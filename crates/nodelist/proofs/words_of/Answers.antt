@@ -1,6 +1,6 @@
 use Rattle.std.proofs.Common.{rules}
 use Rattle.nodelist.specs.Places.{node_words}
-use Rattle.nodelist.proofs.put_answer.Goals as goal
+use Rattle.nodelist.proofs.words_of.Goals as goal
 
 pub returns-in-Ok-Entry : goal.returns-in-Ok-Entry
 unfolding node_words
