@@ -64,15 +64,6 @@ held_none image place width h =
     let none : length image - place ≡ 0 = omega arith in
     sym (field_none image place) ∙ ap (field image place) (sym none) ∙ field_cut image place width (omega arith)
 
--- the file's end: the smaller of the header's number and the image's length
-pub end_is_stated : (image : List ℕ) → stated_end image ≤ length image → stated_end image ≡ file_end image
-unfolding file_end
-end_is_stated image h = omega arith
-
-pub end_is_length : (image : List ℕ) → length image < stated_end image → length image ≡ file_end image
-unfolding file_end
-end_is_length image h = omega arith
-
 -- the file ends inside the image
 pub end_inside : (image : List ℕ) → file_end image ≤ length image
 unfolding file_end

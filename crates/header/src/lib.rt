@@ -191,8 +191,7 @@ fn encoding_fits(image: &[u8]) -> bool
 pub fn stated_end(image: &[u8]) -> u64
     ensures { result ≡ stated_end image.now }
 {
-    let places = places_of(image);
-    let end = places.end;
+    let end = places_of(image).end;
     field_held(image, end.place, end.width)
 }
 
@@ -246,14 +245,13 @@ fn check_last(image: &[u8]) -> Verdict
     ensures { result ≡ in_order (last_rules image.now) }
 {
     let places = places_of(image);
-    let end = places.end;
     let known = encoding_fits(image);
     let reached = end_fits(image);
     if !known {
         return refusal::refused_at(Fault::Encoding, places.sentinel as u64 + 1);
     }
     if !reached {
-        return refusal::refused_at(Fault::ImageLength, end.place as u64);
+        return refusal::refused_at(Fault::ImageLength, places.end.place as u64);
     }
     Ok(())
 }
@@ -262,20 +260,14 @@ fn check_last(image: &[u8]) -> Verdict
 fn check_fields(image: &[u8]) -> Verdict
     ensures { result ≡ in_order (mark_rules image.now ++ seal_rules image.now) }
 {
-    let verdict = check_marks(image);
-    let Ok(()) = verdict else {
-        return verdict;
-    };
+    check_marks(image)?;
     check_seals(image)
 }
 
 pub fn check_header(image: &[u8]) -> Verdict
     ensures { result ≡ header_fits image.now }
 {
-    let verdict = check_fields(image);
-    let Ok(()) = verdict else {
-        return verdict;
-    };
+    check_fields(image)?;
     check_last(image)
 }
 
@@ -284,31 +276,23 @@ fn root_at(image: &[u8], l: Layout) -> Reference
     requires { FairLayout l × (564 ≤ length image.now) }
     ensures { result ≡ root_at image.now l }
 {
-    let place = l.root;
     let word = l.word;
-    let number = le::field_of(image, place, word);
-    let offset = le::field_of(image, place + word, word);
-    Reference { number, offset }
+    Reference {
+        number: le::field_of(image, l.root, word),
+        offset: le::field_of(image, l.root + word, word),
+    }
 }
 
 pub fn header_of(image: &[u8]) -> Result<Header, Refusal>
     ensures { result ≡ header_of image.now }
 {
-    let verdict = check_header(image);
-    if let Err(refusal) = verdict {
-        return Err(refusal);
-    }
-    let nodes = root_at(image, nodes_of(image));
-    let blocks = root_at(image, blocks_of(image));
-    let method = method_of(image);
-    let end = stated_end(image);
-    let edition = bits_of(image);
+    check_header(image)?;
     Ok(Header {
-        method,
-        nodes,
-        blocks,
-        end,
-        edition,
+        method: method_of(image),
+        nodes: root_at(image, nodes_of(image)),
+        blocks: root_at(image, blocks_of(image)),
+        end: stated_end(image),
+        edition: bits_of(image),
     })
 }
 
@@ -316,10 +300,5 @@ pub fn header_of(image: &[u8]) -> Result<Header, Refusal>
 pub fn file_end(image: &[u8]) -> u64
     ensures { result ≡ file_end image.now }
 {
-    let stated = stated_end(image);
-    let length = image.len() as u64;
-    if length < stated {
-        return length;
-    }
-    stated
+    stated_end(image).min(image.len() as u64)
 }

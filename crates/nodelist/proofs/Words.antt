@@ -1,10 +1,11 @@
 -- The nine words of a place. Assumes nothing.
-use Prim.Native.Nat.{ℕ, ◌≤◌}
-use mathlib.Core.Path.{◌≡◌, refl, sym, ap}
-use mathlib.Core.List.{List, [], ◌∷◌}
+use Prim.Native.Nat.{ℕ}
+use mathlib.Core.Path.{◌≡◌, refl, sym, ap, ◌∙◌}
+use mathlib.Core.List.{List, ◌++◌, append_assoc}
 use native.Mathlib.Omega.{arith}
-use lib.ListN.{length, get_or, drop, set}
-use lib.Seq.{sets-eq}
+use lib.ListN.{length, get_or, take, drop, length-append}
+use lib.Seq.{take_at, drop_at, drop-drop}
+use Rattle.laws.specs.Front.{fronted}
 use Rattle.refusal.proofs.NumberLaws.{number_some, refusal_same}
 use Rattle.edition.specs.declared.Layout.{Layout}
 use Rattle.nodelist.specs.Places.{node_words, place_of}
@@ -13,11 +14,6 @@ use Rattle.refusal.specs.declared.Refusal.{Refusal}
 use Rattle.tree.specs.declared.Found.{Found}
 use Rattle.tree.specs.declared.Node.{Node}
 use Rattle.tree.specs.declared.Found.TheVariants.{Absent, Entry}
-
--- what stands where nine words were written one by one
-pub nine_written : (a b c d e f g h i : ℕ) (s : List ℕ) → 9 ≤ length s
-    → set (set (set (set (set (set (set (set (set s 0 a) 1 b) 2 c) 3 d) 4 e) 5 f) 6 g) 7 h) 8 i ≡ a ∷ b ∷ c ∷ d ∷ e ∷ f ∷ g ∷ h ∷ i ∷ drop 9 s
-nine_written a b c d e f g h i s l = sets-eq (a ∷ b ∷ c ∷ d ∷ e ∷ f ∷ g ∷ h ∷ i ∷ []) s 0 l
 
 pub words_length : (x : Result (Found Node) Refusal) → length (node_words x) ≡ 9
 unfolding node_words
@@ -45,3 +41,17 @@ words_injective (Err r) (Ok (Absent q)) e = absurd (number_some r.fault (ap (λ 
 -- every place has nine words
 pub place_length : (L : Layout) (image : List ℕ) (node : ℕ) → length (place_of L image node) ≡ 9
 place_length L image node = words_length _
+
+-- a place written right behind those so far
+pub place_written : (o J c x out : List ℕ) (n m : ℕ) → out ≡ fronted J o → n ≡ length J → m ≡ length c → x ≡ c
+    → take n out ++ (x ++ drop m (drop n out)) ≡ fronted (J ++ c) o
+place_written o J c x out n m e h k w =
+    rw (w, k, take-is, rest)
+    (sym (append_assoc J c (drop (length c) (drop (length J) o)))
+    ∙ ap (λ (y : List ℕ). (J ++ c) ++ y) (drop-drop (length c) (length J) o ∙ ap (λ (i : ℕ). drop i o) (sym (length-append J c))))
+  where
+    take-is : take n out ≡ J
+    take-is = ap (take n) e ∙ take_at J (drop (length J) o) n (sym h)
+
+    rest : drop n out ≡ drop (length J) o
+    rest = ap (drop n) e ∙ drop_at J (drop (length J) o) n (sym h)

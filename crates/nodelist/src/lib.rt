@@ -1,58 +1,25 @@
 // A list of nodes, looked up in one call.
 #![tactic(auto)]
 
-ghost use Rattle.std.specs.Prelude.{◌≡◌, ◌∷◌, ◌*◌, ◌≤◌, length, drop};
+ghost use Rattle.std.specs.Prelude.{◌≡◌, ◌*◌, ◌≤◌, length};
 ghost use Rattle.laws.specs.Front.{fronted};
-ghost use Rattle.refusal.specs.Order.{◌needing◌};
 ghost use Rattle.edition.specs.Fair.{FairLayout};
 ghost use Rattle.nodelist.specs.Places.{node_words, places_of, list_fits, area_of};
 
 use edition::Layout;
 use refusal::{Fault, Refusal, Verdict};
-use tree::{FoundNode, Node, Way};
+use tree::{Found, Node};
 
-// The nine words of a place, written one by one.
-fn put_words(
-    refusal: u64,
-    place: u64,
-    more: u64,
-    found: u64,
-    pages: u64,
-    n: Node,
-    words: &mut [u64],
-)
-    requires { 9 ≤ length words.old }
-    ensures { words.new ≡ refusal ∷ place ∷ more ∷ found ∷ pages ∷ n.node ∷ n.block ∷ n.subnode ∷ n.parent ∷ drop 9 words.old }
+// An answer as the nine words of a place.
+fn words_of(answer: Result<Found<Node>, Refusal>) -> [u64; 9]
+    ensures { result ≡ node_words answer }
 {
-    words[0] = refusal;
-    words[1] = place;
-    words[2] = more;
-    words[3] = found;
-    words[4] = pages;
-    words[5] = n.node;
-    words[6] = n.block;
-    words[7] = n.subnode;
-    words[8] = n.parent;
-}
-
-// An answer at the front of the words.
-fn put_answer(answer: Result<Found<Node>, Refusal>, words: &mut [u64])
-    requires { 9 ≤ length words.old }
-    ensures { words.new ≡ fronted (node_words answer) words.old }
-{
-    let none = Node {
-        node: 0,
-        block: 0,
-        subnode: 0,
-        parent: 0,
-    };
     match answer {
-        Ok(Found::Entry(n, pages)) => put_words(0, 0, 0, 1, pages, n, words),
-        Ok(Found::Absent(pages)) => put_words(0, 0, 0, 0, pages, none, words),
+        Ok(Found::Entry(n, pages)) => [0, 0, 0, 1, pages, n.node, n.block, n.subnode, n.parent],
+        Ok(Found::Absent(pages)) => [0, 0, 0, 0, pages, 0, 0, 0, 0],
         Err(r) => {
-            let fault = r.fault;
-            let number = refusal::number_of(fault) as u64;
-            put_words(number, r.place, r.more, 0, 0, none, words)
+            let number = u64::from(refusal::number_of(r.fault));
+            [number, r.place, r.more, 0, 0, 0, 0, 0, 0]
         }
     }
 }
@@ -65,25 +32,11 @@ fn fill(image: &[u8], l: Layout, nodes: &[u64], places: &mut [u64])
 {
     let start = tree::check_start(image, l);
     let mut way = Ok(Found::Absent(0));
-    let mut i: usize = 0;
-    while i < nodes.len() {
-        let node = nodes[i];
-        let at = 9 * i;
-        way = tree::way_to(image, l, start, way, node);
-        put_answer(tree::node_at(image, l, way, node), &mut places[at..]);
-        i += 1;
+    for (i, node) in nodes.iter().enumerate() {
+        way = tree::way_to(image, l, start, way, *node);
+        let words = words_of(tree::node_at(image, l, way, *node));
+        places[9 * i..9 * i + 9].copy_from_slice(&words);
     }
-}
-
-// 17, with the number of places that there may be, or must be.
-fn short_area(places: u64) -> Verdict
-    ensures { result ≡ Err (Fault.ShortBuffer needing places) }
-{
-    Err(Refusal {
-        fault: Fault::ShortBuffer,
-        place: 0,
-        more: places,
-    })
 }
 
 // An empty list is answered without a look at the image.
@@ -94,10 +47,10 @@ pub fn find_nodes(image: &[u8], l: Layout, nodes: &[u64], places: &mut [u64]) ->
 {
     let count = nodes.len();
     if 4096 < count {
-        return short_area(4096);
+        return refusal::refused_needing(Fault::ShortBuffer, 4096);
     }
     if places.len() / 9 < count {
-        return short_area(count as u64);
+        return refusal::refused_needing(Fault::ShortBuffer, count as u64);
     }
     if 0 < count {
         fill(image, l, nodes, places);

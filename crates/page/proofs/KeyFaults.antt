@@ -7,7 +7,7 @@ use native.Mathlib.Omega.{arith}
 use Rattle.refusal.specs.declared.Fault.TheVariants.{KeyOrder, KeyRange}
 use Rattle.refusal.specs.declared.Refusal.{Refusal}
 use Rattle.refusal.specs.Number.{number}
-use Rattle.refusal.specs.Order.{at_entry, in_order, AllHold, FirstFault, here, later}
+use Rattle.refusal.specs.Order.{Verdict, at_entry, in_order, AllHold, FirstFault, here, later}
 use Rattle.refusal.proofs.OrderLaws.{accepted_exactly, refused_exactly, unrefused, then_refused, in_order_append, append_goes}
 use Rattle.keys.specs.Range.{ordered}
 use Rattle.keys.proofs.Faults.{unordered_exactly, outside_exactly, climbing_exactly}
@@ -21,7 +21,7 @@ use Rattle.keys.specs.declared.Disorder.{Disorder}
 use Rattle.keys.specs.declared.Disorder.TheVariants.{Outside, Unordered}
 
 -- what the verdict of the keys says of what was found
-same_entry : {a b : Refusal} → Err a ≡ Err b → (a.more ≡ b.more) × (number a.fault ≡ number b.fault)
+same_entry : {a b : Refusal} → ◌≡◌ {A = Verdict} (Err a) (Err b) → (a.more ≡ b.more) × (number a.fault ≡ number b.fault)
 same_entry e = (ap (λ (r : Refusal). r.more) (unrefused e), ap (λ (r : Refusal). number r.fault) (unrefused e))
 
 told_unordered : (offset : ℕ) (o : Result ⊤ Disorder) (i : ℕ) → told offset o ≡ Err (at_entry KeyOrder offset i) → o ≡ Err (Unordered i)

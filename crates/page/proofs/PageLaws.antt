@@ -1,14 +1,14 @@
 -- What upper layers may know of a page, and what the functions' proofs share. Assumes nothing.
 use Prim.Native.Nat.{ℕ, zero, suc, ◌+◌, ◌*◌, ◌-◌, ◌/◌, ◌%◌, ◌^◌, ◌≤◌, ◌<◌}
 use mathlib.Core.Path.{◌≡◌, refl, sym, ap, ◌∙◌}
-use mathlib.Core.Bool.{Bool, true, false, ◌&&◌, ◌||◌}
+use mathlib.Core.Bool.{true, false, ◌&&◌, ◌||◌}
 use mathlib.Core.List.{List, ◌++◌, map}
 use mathlib.Core.Logic.{⊎_elim}
 use native.Mathlib.Nat.{mod-eq_of_lt, le_trans, mul-le-mul_right}
 use native.Mathlib.Omega.{arith}
 use lib.Dec.{leb, eqb}
 use lib.ListN.{length, take, drop}
-use borrow.Author.Tests.{leb-true, leb-false, eqb-true, le-leb, lt-leb}
+use borrow.Author.Tests.{leb-true, eqb-true}
 use Rattle.laws.proofs.Tests.{and_both}
 use Rattle.le.specs.Bytes.{field, Bytes}
 use Rattle.le.proofs.FieldLaws.{part_is, part_length}
@@ -56,17 +56,6 @@ halves_alike L one other fair r e =
 pub compared_alike : (L : Layout) (one other : ℕ) → FairLayout L → L.reserved ≡ true → cleared one ≡ cleared other → compared L one ≡ compared L other
 unfolding cleared
 compared_alike L one other fair r e = halves_alike L one other fair r (omega (arith, e))
-
--- a sum compared without being made
-pub ends_late : (offset size end : ℕ) → end < offset → false ≡ leb (offset + size) end
-ends_late offset size end h = sym (lt-leb (offset + size) end (omega arith))
-
-pub ends_same : (offset size end : ℕ) → offset ≤ end → leb size (end - offset) ≡ leb (offset + size) end
-ends_same offset size end h = by (leb size (end - offset)) refl
-  where
-    by : (b : Bool) → leb size (end - offset) ≡ b → b ≡ leb (offset + size) end
-    by true e = let w = leb-true size (end - offset) e in sym (le-leb (offset + size) end (omega arith))
-    by false e = let w = leb-false size (end - offset) e in sym (lt-leb (offset + size) end (omega arith))
 
 -- a page whose offset is allowed ends at or before the file's end, and so lies in the image
 pub offset_ends : (image : List ℕ) (offset : ℕ) → offset_fits image offset ≡ true → offset + 512 ≤ file_end image

@@ -9,7 +9,7 @@ ghost use Rattle.edition.specs.Fair.{FairLayout};
 ghost use Rattle.page.specs.Page.{signature as signature_of, count_of, level_of, offset_fits, kind_fits, number_fits, checksum_fits, level_fits, may_be_empty, counts_fit, bytes_rules, keys_in, key_rules, page_fits};
 
 use edition::Layout;
-use keys::{End, Order, Range, Shape};
+use keys::{Disorder, Range, Shape};
 use refusal::{Fault, Verdict};
 
 // The level that a page must have.
@@ -66,10 +66,7 @@ pub fn signature(offset: u64, number: u64) -> u16
 pub fn ends_by(offset: u64, size: u64, end: u64) -> bool
     ensures { result ≡ leb (offset + size) end }
 {
-    if end < offset {
-        return false;
-    }
-    size <= end - offset
+    offset <= end && size <= end - offset
 }
 
 // Test 6.
@@ -85,8 +82,7 @@ fn kind_fits(l: Layout, page: &[u8]) -> bool
     ensures { result ≡ kind_fits l page.now }
 {
     let place = l.trailer;
-    let kind = l.kind;
-    (le::byte_at(page, place) == kind) & (le::byte_at(page, place + 1) == kind)
+    (le::byte_at(page, place) == l.kind) & (le::byte_at(page, place + 1) == l.kind)
 }
 
 // Test 8.
@@ -94,9 +90,8 @@ fn number_fits(l: Layout, p: Link, page: &[u8]) -> bool
     requires { FairLayout l × (length page.now ≡ 512) }
     ensures { result ≡ number_fits l p page.now }
 {
-    let number = p.number;
-    (le::field_of(page, l.number, l.word) == number)
-        & (le::field2(page, l.trailer + 2) == signature(p.offset, number))
+    (le::field_of(page, l.number, l.word) == p.number)
+        & (le::field2(page, l.trailer + 2) == signature(p.offset, p.number))
 }
 
 // Test 9.
@@ -104,8 +99,7 @@ fn checksum_fits(l: Layout, page: &[u8]) -> bool
     requires { FairLayout l × (length page.now ≡ 512) }
     ensures { result ≡ checksum_fits l page.now }
 {
-    let end = l.trailer;
-    le::field4(page, l.checksum) == crc::checksum(&page[..end])
+    le::field4(page, l.checksum) == crc::checksum(&page[..l.trailer])
 }
 
 fn level_fits(want: Level, level: usize) -> bool
@@ -142,9 +136,8 @@ fn most_room(l: Layout, level: usize) -> usize
 pub fn shape_of(l: Layout, level: usize) -> Shape
     ensures { result ≡ shape l level }
 {
-    let size = entry_size(l, level);
     Shape {
-        size,
+        size: entry_size(l, level),
         width: l.key,
         reserved: l.reserved,
     }
@@ -182,12 +175,11 @@ fn counts_fit(l: Layout, p: Link, page: &[u8]) -> bool
     let room = count_at(page, place + 1);
     let size = count_at(page, place + 2);
     let level = count_at(page, place + 3);
-    let want = p.level;
-    level_fits(want, level)
+    level_fits(p.level, level)
         & (size == entry_size(l, level))
         & (room <= most_room(l, level))
         & (count <= room)
-        & ((1 <= count) | may_be_empty(want, level))
+        & ((1 <= count) | may_be_empty(p.level, level))
 }
 
 // Tests 11 and 21.
@@ -195,14 +187,10 @@ fn check_keys(l: Layout, p: Link, page: &[u8]) -> Verdict
     requires { FairLayout l × (length page.now ≡ 512) × (counts_fit l p page.now ≡ true) }
     ensures { result ≡ in_order (key_rules p (keys_in l page.now)) }
 {
-    let count = count_of(l, page);
-    let shape = shape_in(l, page);
-    let range = p.range;
-    let offset = p.offset;
-    match keys::check_keys(page, shape, count, range) {
+    match keys::check_keys(page, shape_in(l, page), count_of(l, page), p.range) {
         Ok(()) => Ok(()),
-        Err(Disorder::Unordered(i)) => refusal::refused_entry(Fault::KeyOrder, offset, i as u64),
-        Err(Disorder::Outside(i)) => refusal::refused_entry(Fault::KeyRange, offset, i as u64),
+        Err(Disorder::Unordered(i)) => refusal::refused_entry(Fault::KeyOrder, p.offset, i as u64),
+        Err(Disorder::Outside(i)) => refusal::refused_entry(Fault::KeyRange, p.offset, i as u64),
     }
 }
 

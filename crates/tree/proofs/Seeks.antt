@@ -19,7 +19,7 @@ use Rattle.tree.proofs.Children.{starting_from}
 use Rattle.tree.proofs.Walk.{test_is}
 use Rattle.tree.proofs.Searched.{sorted, filled}
 use Rattle.tree.proofs.Steps.{next_missing, way_index, way_none}
-use Rattle.std.specs.Prelude.{None, Result, Ok}
+use Rattle.std.specs.Prelude.{None, Result, Ok, Err}
 use Rattle.refusal.specs.Order.{Verdict}
 use Rattle.refusal.specs.declared.Refusal.{Refusal}
 use Rattle.tree.specs.declared.Fields.{Fields}
@@ -61,6 +61,13 @@ module _ (L : Layout) (n : ℕ) (a : Answer (List ℕ)) (f : Result (Found Field
       by (found y j) q = let w : n + 1 + j ≡ n + (1 + j) = omega arith in q ∙ ap (λ (m : ℕ). shown L (found y m)) w
       by (absent j) q = absurd (h (n + 1 + j) q)
       by (refused r) q = q
+
+-- a refusal is no absence, nor is an entry
+pub refused_stays : (r : Refusal) (m : ℕ) → ◌≡◌ {A = Result (Found Fields) Refusal} (Err r) (Ok (Absent m)) → ⊥
+refused_stays r m e = let clash : ◌≡◌ {A = ℕ} 0 1 = cc in omega arith
+
+pub entry_stays : (x : Found Fields) → ((m : ℕ) → x ≡ Absent m → ⊥) → (m : ℕ) → ◌≡◌ {A = Result (Found Fields) Refusal} (Ok x) (Ok (Absent m)) → ⊥
+entry_stays x h m e = h m cc
 
 -- an index page, whose check answered v, when n pages have been read: the child where the listing starts, and the one behind it
 module _ (L : Layout) (image : List ℕ) (k n : ℕ) (p : Link) (v : Verdict) (page-is : v ≡ page_fits L image p)

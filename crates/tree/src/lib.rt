@@ -19,7 +19,7 @@ ghost use Rattle.tree.specs.Ways.{start_fits, at_end, Leading, FromRoot, leads_t
 ghost use Rattle.tree.specs.Answers.{column_of, fields_of, shown, as_node, node_of, as_block, block_of, next_node_of, next_block_of, kids_from, chosen_of, next_of, LevelIs};
 
 use edition::{Column, Layout};
-use keys::{End, Range, Seat, Shape, Sought};
+use keys::{Range, Shape, Sought};
 use page::{Level, Link};
 use refusal::{Refusal, Verdict};
 
@@ -32,13 +32,15 @@ pub struct Fields {
     pub fourth: u64,
 }
 
-// An entry and the count of pages read; absent, with that count; or the refusal.
+// An entry that was found, or that there is none; and beside either the count of pages read.
 #[derive(Clone, Copy)]
-pub enum Found {
-    Entry(Fields, u64),
+pub enum Found<T> {
+    Entry(T, u64),
     Absent(u64),
-    Refused(Refusal),
 }
+
+// The way of a key down a tree: the leaf page at which its lookup ends, or an index page with no child for it.
+pub type Way = Result<Found<Link>, Refusal>;
 
 // A node as its tree lists it: its number, data block, subnode block and parent.
 #[derive(Clone, Copy)]
@@ -73,14 +75,11 @@ fn link_at(
 {
     let word = l.word;
     let place = i * shape.size;
-    let number = le::field_of(page, place + word, word);
-    let offset = le::field_of(page, place + word + word, word);
-    let range = keys::range_at(page, shape, count, i, to);
     Link {
-        number,
-        offset,
+        number: le::field_of(page, place + word, word),
+        offset: le::field_of(page, place + word + word, word),
         level: Level::Exactly(level),
-        range,
+        range: keys::range_at(page, shape, count, i, to),
     }
 }
 
@@ -94,10 +93,7 @@ fn next_link(l: Layout, page: &[u8], level: usize, p: Link, i: usize) -> Option<
         return None;
     }
     let shape = page::shape_in(l, page);
-    let range = p.range;
-    let to = range.to;
-    let child = link_at(l, page, shape, count, level, to, i);
-    Some(child)
+    Some(link_at(l, page, shape, count, level, p.range.to, i))
 }
 
 // The same in an image, of an accepted page.
@@ -141,9 +137,7 @@ fn link_for(
     ensures { next_of (kids_from l image.now level p i) ≡ Some result }
 {
     let at = p.offset as usize;
-    let range = p.range;
-    let to = range.to;
-    link_at(l, &image[at..at + 512], entry, count, level, to, i)
+    link_at(l, &image[at..at + 512], entry, count, level, p.range.to, i)
 }
 
 // "Every page on this path gets the full page check": all pages that are read pass here, whatever the call.
@@ -160,10 +154,7 @@ fn check_under(image: &[u8], l: Layout, level: usize, p: Link) -> Verdict
     requires { FairLayout l }
     ensures { result ≡ check_under (page_tree l image.now) level p }
 {
-    let verdict = verdict_on(image, l, p);
-    let Ok(()) = verdict else {
-        return verdict;
-    };
+    verdict_on(image, l, p)?;
     if level == 0 {
         return Ok(());
     }
@@ -178,21 +169,13 @@ fn check_children(image: &[u8], l: Layout, level: usize, p: Link) -> Verdict
 {
     let count = count_for(image, l, p);
     let entry = entry_for(image, l, p);
-    let mut i = 0;
-    while i < count {
+    for i in 0..count {
         let child = link_for(image, l, entry, count, level, p, i);
         if level == 0 {
-            let verdict = verdict_on(image, l, child);
-            let Ok(()) = verdict else {
-                return verdict;
-            };
+            verdict_on(image, l, child)?;
         } else {
-            let verdict = check_under(image, l, level, child);
-            let Ok(()) = verdict else {
-                return verdict;
-            };
+            check_under(image, l, level, child)?;
         }
-        i += 1;
     }
     Ok(())
 }
@@ -204,14 +187,8 @@ fn choose(l: Layout, page: &[u8], level: usize, p: Link, key: u64) -> Option<Lin
 {
     let count = page::count_of(l, page);
     let shape = page::shape_in(l, page);
-    let seat = keys::last_at_most(page, shape, count, key);
-    let Some(i) = seat else {
-        return None;
-    };
-    let range = p.range;
-    let to = range.to;
-    let child = link_at(l, page, shape, count, level, to, i);
-    Some(child)
+    let i = keys::last_at_most(page, shape, count, key)?;
+    Some(link_at(l, page, shape, count, level, p.range.to, i))
 }
 
 // The same in an image, of an accepted page.
@@ -236,39 +213,43 @@ fn fields_at(l: Layout, page: &[u8], place: usize) -> Fields
     ensures { result ≡ fields_of l (part page.now place l.leafsize) }
 {
     let size = l.leafsize;
-    let one = l.first;
-    let two = l.second;
-    let three = l.third;
-    let four = l.fourth;
-    let first = column_at(page, place, size, one);
-    let second = column_at(page, place, size, two);
-    let third = column_at(page, place, size, three);
-    let fourth = column_at(page, place, size, four);
     Fields {
-        first,
-        second,
-        third,
-        fourth,
+        first: column_at(page, place, size, l.first),
+        second: column_at(page, place, size, l.second),
+        third: column_at(page, place, size, l.third),
+        fourth: column_at(page, place, size, l.fourth),
     }
 }
 
 // The answer at a leaf page whose counts fit, when so many pages have been read.
-fn leaf_answer(l: Layout, page: &[u8], p: Link, sought: Sought, key: u64, pages: u64) -> Result<Found<Fields>, Refusal>
+fn leaf_answer(
+    l: Layout,
+    page: &[u8],
+    p: Link,
+    sought: Sought,
+    key: u64,
+    pages: u64,
+) -> Result<Found<Fields>, Refusal>
     requires { FairLayout l × (length page.now ≡ 512) × (counts_fit l p page.now ≡ true) × (level_of l page.now ≡ 0) }
     ensures { result ≡ shown l (answer (scanned sought (key_in l) key (entries l page.now)) pages) }
 {
     let count = page::count_of(l, page);
     let shape = page::shape_of(l, 0);
-    let seat = keys::first_that(page, shape, count, sought, key);
-    let Some(i) = seat else {
+    let Some(i) = keys::first_that(page, shape, count, sought, key) else {
         return Ok(Found::Absent(pages));
     };
-    let fields = fields_at(l, page, i * l.leafsize);
-    Ok(Found::Entry(fields, pages))
+    Ok(Found::Entry(fields_at(l, page, i * l.leafsize), pages))
 }
 
 // The same in an image, of an accepted page.
-fn leaf_for(image: &[u8], l: Layout, p: Link, sought: Sought, key: u64, pages: u64) -> Result<Found<Fields>, Refusal>
+fn leaf_for(
+    image: &[u8],
+    l: Layout,
+    p: Link,
+    sought: Sought,
+    key: u64,
+    pages: u64,
+) -> Result<Found<Fields>, Refusal>
     requires { FairLayout l × (page_fits l image.now p ≡ Ok tt) × (level_of l (page image.now p.offset) ≡ 0) }
     ensures { result ≡ shown l (answer (scanned sought (key_in l) key (entries l (page image.now p.offset))) pages) }
 {
@@ -284,14 +265,10 @@ fn way_from(image: &[u8], l: Layout, level: usize, p: Link, key: u64, pages: u64
     if level == 0 {
         return Ok(Found::Entry(p, pages + 1));
     }
-    let next = child_for(image, l, level - 1, p, key);
-    let Some(child) = next else {
+    let Some(child) = child_for(image, l, level - 1, p, key) else {
         return Ok(Found::Absent(pages + 1));
     };
-    let verdict = verdict_on(image, l, child);
-    if let Err(refusal) = verdict {
-        return Err(refusal);
-    }
+    verdict_on(image, l, child)?;
     way_from(image, l, level - 1, child, key, pages + 1)
 }
 
@@ -299,11 +276,10 @@ fn way_from(image: &[u8], l: Layout, level: usize, p: Link, key: u64, pages: u64
 fn leads_to(way: Way, key: u64) -> bool
     ensures { result ≡ leads_to way key }
 {
-    match way {
-        Ok(Found::Entry(leaf, _)) => keys::in_range(leaf.range, key),
-        Ok(Found::Absent(_)) => false,
-        Err(_) => false,
-    }
+    let Ok(Found::Entry(leaf, _)) = way else {
+        return false;
+    };
+    keys::in_range(leaf.range, key)
 }
 
 // The answer at the end of a way from the root page.
@@ -311,10 +287,9 @@ fn end_of(image: &[u8], l: Layout, way: Way, key: u64) -> Result<Found<Fields>, 
     requires { FairLayout l × FromRoot l image.now way }
     ensures { result ≡ shown l (at_end l image.now way key) }
 {
-    match way {
-        Ok(Found::Entry(leaf, pages)) => leaf_for(image, l, leaf, Sought::Equal, key, pages),
-        Ok(Found::Absent(pages)) => Ok(Found::Absent(pages)),
-        Err(refusal) => Err(refusal),
+    match way? {
+        Found::Entry(leaf, pages) => leaf_for(image, l, leaf, Sought::Equal, key, pages),
+        Found::Absent(pages) => Ok(Found::Absent(pages)),
     }
 }
 
@@ -339,29 +314,31 @@ fn start_for(image: &[u8], l: Layout, p: Link, key: u64) -> usize
 
 // The first entry from a key on under a page of a level, when so many pages have been read. The child
 // behind one that answers absent begins above the key, so it never answers absent itself.
-fn seek(image: &[u8], l: Layout, level: usize, p: Link, key: u64, pages: u64) -> Result<Found<Fields>, Refusal>
+fn seek(
+    image: &[u8],
+    l: Layout,
+    level: usize,
+    p: Link,
+    key: u64,
+    pages: u64,
+) -> Result<Found<Fields>, Refusal>
     requires { FairLayout l × LevelIs l image.now level p × (level ≤ 255) × (pages + 512 * level ≤ 200000) }
     ensures { result ≡ shown l (counted pages (descend (page_tree l image.now) Sought.AtLeast key level p)) }
 {
-    let checked = verdict_on(image, l, p);
-    if let Err(wrong) = checked {
-        return Err(wrong);
-    }
+    verdict_on(image, l, p)?;
     if level == 0 {
         return leaf_for(image, l, p, Sought::AtLeast, key, pages + 1);
     }
     let i = start_for(image, l, p, key);
-    let first = child_at(image, l, level - 1, p, i);
-    let Some(child) = first else {
+    let Some(child) = child_at(image, l, level - 1, p, i) else {
         return Ok(Found::Absent(pages + 1));
     };
-    let found = seek(image, l, level - 1, child, key, pages + 1);
-    let Ok(Found::Absent(read)) = found else {
-        return found;
+    let found = seek(image, l, level - 1, child, key, pages + 1)?;
+    let Found::Absent(read) = found else {
+        return Ok(found);
     };
-    let second = child_at(image, l, level - 1, p, i + 1);
-    let Some(further) = second else {
-        return found;
+    let Some(further) = child_at(image, l, level - 1, p, i + 1) else {
+        return Ok(found);
     };
     seek(image, l, level - 1, further, key, read)
 }
@@ -371,18 +348,12 @@ fn root_link(image: &[u8], l: Layout) -> Link
     requires { FairLayout l × (564 ≤ length image.now) }
     ensures { result ≡ root l image.now }
 {
-    let place = l.root;
     let word = l.word;
-    let number = le::field_of(image, place, word);
-    let offset = le::field_of(image, place + word, word);
     Link {
-        number,
-        offset,
+        number: le::field_of(image, l.root, word),
+        offset: le::field_of(image, l.root + word, word),
         level: Level::AtRoot,
-        range: Range {
-            from: 0,
-            to: None,
-        },
+        range: Range { from: 0, to: None },
     }
 }
 
@@ -403,10 +374,7 @@ pub fn check_tree(image: &[u8], l: Layout) -> Verdict
     requires { FairLayout l }
     ensures { result ≡ tree_fits l image.now }
 {
-    let verdict = header::check_header(image);
-    let Ok(()) = verdict else {
-        return verdict;
-    };
+    header::check_header(image)?;
     let p = root_link(image, l);
     check_under(image, l, stated_level(image, l, p.offset), p)
 }
@@ -424,10 +392,7 @@ pub fn check_start(image: &[u8], l: Layout) -> Verdict
     requires { FairLayout l }
     ensures { result ≡ start_fits l image.now }
 {
-    let verdict = header::check_header(image);
-    let Ok(()) = verdict else {
-        return verdict;
-    };
+    header::check_header(image)?;
     check_root(image, l)
 }
 
@@ -437,9 +402,7 @@ pub fn way_to(image: &[u8], l: Layout, start: Verdict, last: Way, key: u64) -> W
     requires { FairLayout l × (start ≡ start_fits l image.now) × FromRoot l image.now last }
     ensures { (at_end l image.now result (compared l key) ≡ lookup l image.now key) × FromRoot l image.now result }
 {
-    if let Err(refusal) = start {
-        return Err(refusal);
-    }
+    start?;
     let sought = page::compared(l, key);
     if leads_to(last, sought) {
         return last;
@@ -464,10 +427,7 @@ fn find(image: &[u8], l: Layout, key: u64) -> Result<Found<Fields>, Refusal>
     requires { FairLayout l }
     ensures { result ≡ shown l (lookup l image.now key) }
 {
-    let verdict = header::check_header(image);
-    if let Err(refusal) = verdict {
-        return Err(refusal);
-    }
+    header::check_header(image)?;
     find_in(image, l, key)
 }
 
@@ -476,10 +436,7 @@ fn find_next(image: &[u8], l: Layout, from: u64) -> Result<Found<Fields>, Refusa
     requires { FairLayout l }
     ensures { result ≡ shown l (next l image.now from) }
 {
-    let verdict = header::check_header(image);
-    if let Err(refusal) = verdict {
-        return Err(refusal);
-    }
+    header::check_header(image)?;
     let p = root_link(image, l);
     let level = stated_level(image, l, p.offset);
     seek(image, l, level, p, page::as_given(l, from), 0)
@@ -488,15 +445,17 @@ fn find_next(image: &[u8], l: Layout, from: u64) -> Result<Found<Fields>, Refusa
 fn as_node(found: Result<Found<Fields>, Refusal>) -> Result<Found<Node>, Refusal>
     ensures { result ≡ as_node found }
 {
-    match found {
-        Ok(Found::Entry(fields, pages)) => Ok(Found::Entry(Node {
+    match found? {
+        Found::Entry(fields, pages) => Ok(Found::Entry(
+            Node {
                 node: fields.first,
                 block: fields.second,
                 subnode: fields.third,
                 parent: fields.fourth,
-            }, pages)),
-        Ok(Found::Absent(pages)) => Ok(Found::Absent(pages)),
-        Err(refusal) => Err(refusal),
+            },
+            pages,
+        )),
+        Found::Absent(pages) => Ok(Found::Absent(pages)),
     }
 }
 
@@ -525,15 +484,17 @@ pub fn node_at(image: &[u8], l: Layout, way: Way, node: u64) -> Result<Found<Nod
 fn as_block(found: Result<Found<Fields>, Refusal>) -> Result<Found<Listed>, Refusal>
     ensures { result ≡ as_block found }
 {
-    match found {
-        Ok(Found::Entry(fields, pages)) => Ok(Found::Entry(Listed {
+    match found? {
+        Found::Entry(fields, pages) => Ok(Found::Entry(
+            Listed {
                 block: fields.first,
                 offset: fields.second,
                 size: fields.third,
                 references: fields.fourth,
-            }, pages)),
-        Ok(Found::Absent(pages)) => Ok(Found::Absent(pages)),
-        Err(refusal) => Err(refusal),
+            },
+            pages,
+        )),
+        Found::Absent(pages) => Ok(Found::Absent(pages)),
     }
 }
 

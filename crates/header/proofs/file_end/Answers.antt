@@ -1,10 +1,7 @@
-use mathlib.Core.Path.{◌∙◌}
-use native.Mathlib.Omega.{arith}
-use Rattle.header.proofs.HeaderLaws.{end_is_stated, end_is_length}
+use Rattle.std.proofs.Common.{rules}
+use Rattle.header.specs.Header.{file_end}
 use Rattle.header.proofs.file_end.Goals as goal
 
-pub returns-then-length-stated : goal.returns-then-length-stated
-returns-then-length-stated c = end_is_length c.args.image.now (omega arith)
-
 pub returns : goal.returns
-returns c = c.stated_end-stated.ensures ∙ end_is_stated c.args.image.now (omega arith)
+unfolding file_end
+returns c = search rules

@@ -7,10 +7,10 @@ use Rattle.header.proofs.EditionLaws.{fair_places}
 use Rattle.header.proofs.stated_end.Goals as goal
 
 pub field_held-requires : goal.field_held-requires
-field_held-requires c = omega (arith, (fair_places c.args.image.now).end.word, ap (λ (p : HeaderPlaces). p.end.width) c.places_of-places.ensures)
+field_held-requires c = omega (arith, (fair_places c.args.image.now).end.word, ap (λ (p : HeaderPlaces). p.end.width) c.places_of.ensures)
 
 pub returns : goal.returns
 unfolding stated_end
 returns c =
     let image = c.args.image.now in
-    c.field_held.ensures ∙ ap (λ (p : HeaderPlaces). field image p.end.place p.end.width) c.places_of-places.ensures
+    c.field_held.ensures ∙ ap (λ (p : HeaderPlaces). field image p.end.place p.end.width) c.places_of.ensures

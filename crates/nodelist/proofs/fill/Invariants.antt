@@ -1,15 +1,9 @@
-use Prim.Native.Nat.{◌-◌, ◌≤◌}
 use mathlib.Core.Path.{◌≡◌}
-use lib.ListN.{length, take}
+use lib.ListN.{take}
 use Rattle.laws.specs.Front.{fronted}
-use Rattle.tree.specs.Ways.{start_fits, FromRoot}
+use Rattle.tree.specs.Ways.{FromRoot}
 use Rattle.nodelist.specs.Places.{places_of}
 use Rattle.nodelist.proofs.fill.Given as goal
 
 abbrev pub invariant-loop-i : goal.invariant-loop-i
-invariant-loop-i l =
-    (l.i ≤ length l.nodes) × (length l.places ≡ length l.initial.places) × (l.start ≡ start_fits l.l l.image) × FromRoot l.l l.image l.way
-    × (l.places ≡ fronted (places_of l.l l.image (take l.i l.nodes)) l.initial.places)
-
-abbrev pub decreases-loop-i : goal.decreases-loop-i
-decreases-loop-i l = length l.nodes - l.i
+invariant-loop-i l = FromRoot l.l l.image l.way × (l.places ≡ fronted (places_of l.l l.image (take l.i l.nodes)) l.initial.places)

@@ -10,17 +10,14 @@ pub returns-then-count-gt4096 : goal.returns-then-count-gt4096
 returns-then-count-gt4096 c =
     let a = c.args in
     let e = too_many (length a.nodes.now) (length a.places.now) (omega arith) in
-    record { answer = c.short_area.ensures ∙ e; area = area_left a.l a.image.now a.nodes.now a.places.now _ e }
+    record { answer = c.refused_needing.ensures ∙ e; area = area_left a.l a.image.now a.nodes.now a.places.now _ e }
 
 -- fewer places than numbers
-pub short_area-requires-then-places-count : goal.short_area-requires-then-places-count
-short_area-requires-then-places-count c = search rules
-
 pub returns-then-places-count : goal.returns-then-places-count
 returns-then-places-count c =
     let lent = c.args in
     let e = too_short (length lent.nodes.now) (length lent.places.now) (omega arith) (omega arith) in
-    record { answer = c.short_area-then-places-count.ensures ∙ e; area = area_left lent.l lent.image.now lent.nodes.now lent.places.now _ e }
+    record { answer = c.refused_needing-then-places-count.ensures ∙ e; area = area_left lent.l lent.image.now lent.nodes.now lent.places.now _ e }
 
 pub fill-requires : goal.fill-requires
 fill-requires c = (search rules, omega arith, omega arith)

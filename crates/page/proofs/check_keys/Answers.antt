@@ -11,7 +11,7 @@ use Rattle.page.specs.Page.{count_of, level_of, keys_in}
 use Rattle.page.proofs.KeyLaws.{told, keys_told}
 use Rattle.page.proofs.PageLaws.{entries_held, keys_of_entries}
 use Rattle.page.proofs.check_keys.Goals as goal
-use Rattle.std.specs.Prelude.{Result, ⊤}
+use Rattle.std.specs.Prelude.{Result, Err, ⊤}
 use Rattle.keys.specs.declared.Disorder.{Disorder}
 
 -- what is found of the page's keys, by the shape and the count that were read
@@ -24,24 +24,24 @@ pub check_keys-requires : goal.check_keys-requires
 check_keys-requires c =
     let a = c.args in
     let pre = c.requires in
-    rw (c.shape_in-shape.ensures, c.count_of-count.ensures.0) (entries_held a.l a.p a.page.now pre.0 pre.2 pre.1)
+    rw (c.shape_in.ensures, c.count_of.ensures.0) (entries_held a.l a.p a.page.now pre.0 pre.2 pre.1)
 
-pub returns-in-Climbing : goal.returns-in-Climbing
+pub returns-in-Ok : goal.returns-in-Ok
 unfolding told
-returns-in-Climbing c =
+returns-in-Ok c =
     let a = c.args in
-    sym (keys_told a.p _ ∙ ap (told a.p.offset) (sym (found a.l _ a.page.now _ _ _ c.check_keys.ensures c.shape_in-shape.ensures c.count_of-count.ensures.0) ∙ c.in-Climbing.is))
+    sym (keys_told a.p _ ∙ ap (told a.p.offset) (sym (found a.l _ a.page.now _ _ _ c.check_keys.ensures c.shape_in.ensures c.count_of.ensures.0) ∙ c.in-Ok.is))
 
-pub returns-in-Unordered : goal.returns-in-Unordered
+pub returns-in-Err-Unordered : goal.returns-in-Err-Unordered
 unfolding told
-returns-in-Unordered c =
+returns-in-Err-Unordered c =
     let a = c.args in
     c.refused_entry.ensures
-    ∙ sym (keys_told a.p _ ∙ ap (told a.p.offset) (sym (found a.l _ a.page.now _ _ _ c.check_keys.ensures c.shape_in-shape.ensures c.count_of-count.ensures.0) ∙ c.in-Unordered.is))
+    ∙ sym (keys_told a.p _ ∙ ap (told a.p.offset) (sym (found a.l _ a.page.now _ _ _ c.check_keys.ensures c.shape_in.ensures c.count_of.ensures.0) ∙ c.in-Err-Unordered.is ∙ ap Err c.in-Err-Unordered.field-0-is))
 
-pub returns-in-Outside : goal.returns-in-Outside
+pub returns-in-Err-Outside : goal.returns-in-Err-Outside
 unfolding told
-returns-in-Outside c =
+returns-in-Err-Outside c =
     let a = c.args in
-    c.refused_entry-in-Outside.ensures
-    ∙ sym (keys_told a.p _ ∙ ap (told a.p.offset) (sym (found a.l _ a.page.now _ _ _ c.check_keys.ensures c.shape_in-shape.ensures c.count_of-count.ensures.0) ∙ c.in-Outside.is))
+    c.refused_entry-in-Err-Outside.ensures
+    ∙ sym (keys_told a.p _ ∙ ap (told a.p.offset) (sym (found a.l _ a.page.now _ _ _ c.check_keys.ensures c.shape_in.ensures c.count_of.ensures.0) ∙ c.in-Err-Outside.is ∙ ap Err c.in-Err-Outside.field-0-is))

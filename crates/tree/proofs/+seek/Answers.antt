@@ -1,5 +1,6 @@
+use Rattle.std.proofs.Common.{rules, ◌≡◌, Ok, Err}
 use Prim.Native.Nat.{◌-◌}
-use mathlib.Core.Path.{sym, ap, ◌∙◌}
+use mathlib.Core.Path.{refl, sym, ap, ◌∙◌}
 use native.Mathlib.Omega.{arith}
 use Rattle.tree.specs.Answers.{shown}
 use Rattle.tree.proofs.Walk.{next_level}
@@ -9,71 +10,78 @@ use Rattle.tree.specs.Tree.{page_tree}
 use Rattle.search.proofs.Few.{absent_few}
 use Rattle.tree.proofs.Steps.{way_refused, way_leaf}
 use Rattle.keys.specs.declared.Sought.TheVariants.{AtLeast}
-use Rattle.tree.proofs.Seeks.{absent_pages, seek_none, seek_first, seek_last, seek_second}
+use Rattle.tree.proofs.Seeks.{absent_pages, refused_stays, entry_stays, seek_none, seek_first, seek_last, seek_second}
 use Rattle.tree.proofs.+seek.Goals as goal
 
-pub returns-in-Err : goal.returns-in-Err
-returns-in-Err t c =
+pub returns-in_err-verdict_on : goal.returns-in_err-verdict_on
+returns-in_err-verdict_on t c =
     let a = c.args in
-    (way_refused a.l a.image.now AtLeast a.key a.pages a.p _ c.verdict_on-checked.ensures a.level _ c.in-Err.is)
+    let e : c.from_residual.result ≡ Err c.in_err-verdict_on.field-0.0 = search rules in
+    e ∙ way_refused a.l a.image.now AtLeast a.key a.pages a.p _ c.in_err-verdict_on.ensures a.level _ refl
 
 pub leaf_for-requires : goal.leaf_for-requires
 leaf_for-requires t c =
-    let ok = sym c.verdict_on-checked.ensures ∙ c.in_default.is in
+    let ok = sym c.in_ok-verdict_on.ensures in
     let pre = c.requires in
     (pre.0, ok, pre.1 ok ∙ c.if-level-eq0.true)
 
 pub returns-then-level-eq0 : goal.returns-then-level-eq0
 returns-then-level-eq0 t c =
     let a = c.args in
-    c.leaf_for.ensures ∙ (way_leaf a.l a.image.now AtLeast a.key a.pages a.p _ c.verdict_on-checked.ensures a.level c.if-level-eq0.true c.in_default.is)
+    c.leaf_for.ensures ∙ (way_leaf a.l a.image.now AtLeast a.key a.pages a.p _ c.in_ok-verdict_on.ensures a.level c.if-level-eq0.true refl)
 
 pub start_for-i-requires : goal.start_for-i-requires
-start_for-i-requires t c = (c.requires.0, sym c.verdict_on-checked.ensures ∙ c.in_default.is)
+start_for-i-requires t c = (c.requires.0, sym c.in_ok-verdict_on.ensures)
 
-pub child_at-first-requires : goal.child_at-first-requires
-child_at-first-requires t c = (c.requires.0, sym c.verdict_on-checked.ensures ∙ c.in_default.is)
+pub child_at-requires : goal.child_at-requires
+child_at-requires t c = (c.requires.0, sym c.in_ok-verdict_on.ensures)
 
-pub returns-in_default-first : goal.returns-in_default-first
-returns-in_default-first t c =
+pub returns-in_default : goal.returns-in_default
+returns-in_default t c =
     let a = c.args in
-    (seek_none a.l a.image.now a.key a.pages a.p _ c.verdict_on-checked.ensures a.level _ c.if-level-eq0.false c.in_default.is c.start_for-i.ensures.0 (sym c.child_at-first.ensures ∙ c.in_default-first.is))
+    (seek_none a.l a.image.now a.key a.pages a.p _ c.in_ok-verdict_on.ensures a.level _ c.if-level-eq0.false refl c.start_for-i.ensures.0 (sym c.child_at.ensures ∙ c.in_default.is))
 
-pub seek-found-requires : goal.seek-found-requires
-seek-found-requires t c =
+pub seek-requires : goal.seek-requires
+seek-requires t c =
     let a = c.args in
     let pre = c.requires in (
       omega arith,
       (
         pre.0,
-        next_level a.l a.image.now (a.level - 1) a.p c.in-Some.child _ (sym c.child_at-first.ensures ∙ c.in-Some.is),
+        next_level a.l a.image.now (a.level - 1) a.p c.in-Some.child _ (sym c.child_at.ensures ∙ c.in-Some.is),
         omega arith,
         omega arith,
       ),
     )
 
+pub returns-in_err-found : goal.returns-in_err-found
+returns-in_err-found t c =
+    let a = c.args in
+    let e : c.from_residual-in_err-found.result ≡ Err c.in_err-found.field-0.0 = search rules in
+    e ∙ seek_first a.l a.image.now a.key a.pages a.p _ c.in_ok-verdict_on.ensures a.level _ c.if-level-eq0.false refl c.start_for-i.ensures.0 _ _ _ (more a.l a.image.now (a.level - 1) a.p _ c.in-Some.child (sym c.child_at.ensures ∙ c.in-Some.is)).1 c.in_err-found.ensures (refused_stays _)
+
 pub returns-in_default-found : goal.returns-in_default-found
 returns-in_default-found t c =
     let a = c.args in
-    seek_first a.l a.image.now a.key a.pages a.p _ c.verdict_on-checked.ensures a.level _ c.if-level-eq0.false c.in_default.is c.start_for-i.ensures.0 _ _ _ (more a.l a.image.now (a.level - 1) a.p _ c.in-Some.child (sym c.child_at-first.ensures ∙ c.in-Some.is)).1 c.seek-found.ensures c.in_default-found.not-Absent
+    seek_first a.l a.image.now a.key a.pages a.p _ c.in_ok-verdict_on.ensures a.level _ c.if-level-eq0.false refl c.start_for-i.ensures.0 _ _ _ (more a.l a.image.now (a.level - 1) a.p _ c.in-Some.child (sym c.child_at.ensures ∙ c.in-Some.is)).1 c.in_ok-found.ensures (entry_stays _ c.in_default-found.not-Absent)
 
-pub child_at-second-requires : goal.child_at-second-requires
-child_at-second-requires t c = (c.requires.0, sym c.verdict_on-checked.ensures ∙ c.in_default.is)
+pub child_at-requires-2 : goal.child_at-requires-2
+child_at-requires-2 t c = (c.requires.0, sym c.in_ok-verdict_on.ensures)
 
-pub returns-in_default-second : goal.returns-in_default-second
-returns-in_default-second t c =
+pub returns-in_default-child_at : goal.returns-in_default-child_at
+returns-in_default-child_at t c =
     let a = c.args in
-    sym c.in-Absent.is ∙ seek_last a.l a.image.now a.key a.pages a.p _ c.verdict_on-checked.ensures a.level _ c.if-level-eq0.false c.in_default.is c.start_for-i.ensures.0 _ _ _ (more a.l a.image.now (a.level - 1) a.p _ c.in-Some.child (sym c.child_at-first.ensures ∙ c.in-Some.is)).1 c.seek-found.ensures _ c.in-Absent.is (sym c.child_at-second.ensures ∙ c.in_default-second.is)
+    sym (ap Ok c.in-Absent.is) ∙ seek_last a.l a.image.now a.key a.pages a.p _ c.in_ok-verdict_on.ensures a.level _ c.if-level-eq0.false refl c.start_for-i.ensures.0 _ _ _ (more a.l a.image.now (a.level - 1) a.p _ c.in-Some.child (sym c.child_at.ensures ∙ c.in-Some.is)).1 c.in_ok-found.ensures _ (ap Ok c.in-Absent.is) (sym c.child_at-2.ensures ∙ c.in_default-child_at.is)
 
-pub seek-requires : goal.seek-requires
-seek-requires t c =
+pub seek-requires-2 : goal.seek-requires-2
+seek-requires-2 t c =
     let a = c.args in
     let pre = c.requires in
-    let read = absent_pages a.l a.pages _ _ c.seek-found.ensures _ c.in-Absent.is (a.level - 1) (absent_few (page_tree a.l a.image.now) (sorted a.l a.image.now) (filled a.l a.image.now) a.key (a.level - 1) c.in-Some.child) in (
+    let read = absent_pages a.l a.pages _ _ c.in_ok-found.ensures _ (ap Ok c.in-Absent.is) (a.level - 1) (absent_few (page_tree a.l a.image.now) (sorted a.l a.image.now) (filled a.l a.image.now) a.key (a.level - 1) c.in-Some.child) in (
       omega arith,
       (
         pre.0,
-        next_level a.l a.image.now (a.level - 1) a.p c.in-Some-second.further _ (sym c.child_at-second.ensures ∙ c.in-Some-second.is),
+        next_level a.l a.image.now (a.level - 1) a.p c.in-Some-child_at.further _ (sym c.child_at-2.ensures ∙ c.in-Some-child_at.is),
         omega arith,
         omega (arith, read),
       ),
@@ -82,4 +90,4 @@ seek-requires t c =
 pub returns : goal.returns
 returns t c =
     let a = c.args in
-    c.seek.ensures ∙ ap (shown a.l) (seek_second a.l a.image.now a.key a.pages a.p _ c.verdict_on-checked.ensures a.level _ c.if-level-eq0.false c.in_default.is c.start_for-i.ensures.0 _ _ _ (more a.l a.image.now (a.level - 1) a.p _ c.in-Some.child (sym c.child_at-first.ensures ∙ c.in-Some.is)).1 c.seek-found.ensures _ _ _ c.in-Absent.is (more a.l a.image.now (a.level - 1) a.p _ c.in-Some-second.further (sym c.child_at-second.ensures ∙ c.in-Some-second.is)).1)
+    c.seek-2.ensures ∙ ap (shown a.l) (seek_second a.l a.image.now a.key a.pages a.p _ c.in_ok-verdict_on.ensures a.level _ c.if-level-eq0.false refl c.start_for-i.ensures.0 _ _ _ (more a.l a.image.now (a.level - 1) a.p _ c.in-Some.child (sym c.child_at.ensures ∙ c.in-Some.is)).1 c.in_ok-found.ensures _ _ _ (ap Ok c.in-Absent.is) (more a.l a.image.now (a.level - 1) a.p _ c.in-Some-child_at.further (sym c.child_at-2.ensures ∙ c.in-Some-child_at.is)).1)

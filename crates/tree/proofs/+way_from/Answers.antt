@@ -1,3 +1,4 @@
+use Rattle.std.proofs.Common.{rules, ◌≡◌, Err}
 use Prim.Native.Nat.{◌-◌}
 use mathlib.Core.Path.{sym, ◌∙◌}
 use native.Mathlib.Omega.{arith}
@@ -19,8 +20,8 @@ returns-then-level-eq0 t c =
 pub overflow_sub-level : goal.overflow_sub-level
 overflow_sub-level t c = omega arith
 
-pub child_for-next-requires : goal.child_for-next-requires
-child_for-next-requires t c = (c.requires.0, c.requires.1)
+pub child_for-requires : goal.child_for-requires
+child_for-requires t c = (c.requires.0, c.requires.1)
 
 pub overflow_add-result-in_default : goal.overflow_add-result-in_default
 overflow_add-result-in_default t c = omega arith
@@ -29,19 +30,21 @@ pub returns-in_default : goal.returns-in_default
 returns-in_default t c =
     let a = c.args in
     let pre = c.requires in (
-      end_none a.l a.image.now a.pages a.p pre.1 a.level c.if-level-eq0.false a.key (next_missing _ (sym c.child_for-next.ensures ∙ c.in_default.is)),
+      end_none a.l a.image.now a.pages a.p pre.1 a.level c.if-level-eq0.false a.key (next_missing _ (sym c.child_for.ensures ∙ c.in_default.is)),
       leads_nowhere a.l a.image.now _ _ _ _,
     )
 
-pub verdict_on-verdict-requires : goal.verdict_on-verdict-requires
-verdict_on-verdict-requires t c = c.requires.0
+pub verdict_on-requires : goal.verdict_on-requires
+verdict_on-requires t c = c.requires.0
 
-pub returns-in-Err : goal.returns-in-Err
-returns-in-Err t c =
+pub returns-in_err-verdict_on : goal.returns-in_err-verdict_on
+returns-in_err-verdict_on t c =
     let a = c.args in
     let pre = c.requires in
-    let went = next_chosen a.l a.image.now a.key (children (page_tree a.l a.image.now) (a.level - 1) a.p) _ (sym c.child_for-next.ensures ∙ c.in-Some.is) in (
-      end_refused a.l a.image.now a.pages a.p pre.1 a.level c.if-level-eq0.false c.in-Some.child a.key went _ (sym c.verdict_on-verdict.ensures ∙ c.in-Err.is),
+    let went = next_chosen a.l a.image.now a.key (children (page_tree a.l a.image.now) (a.level - 1) a.p) _ (sym c.child_for.ensures ∙ c.in-Some.is) in
+    let e : c.from_residual.result ≡ Err c.in_err-verdict_on.field-0.0 = search rules in
+    rw e (
+      end_refused a.l a.image.now a.pages a.p pre.1 a.level c.if-level-eq0.false c.in-Some.child a.key went _ (sym c.in_err-verdict_on.ensures),
       leads_refused a.l a.image.now _ _ _ _,
     )
 
@@ -55,8 +58,8 @@ pub way_from-requires : goal.way_from-requires
 way_from-requires t c =
     let a = c.args in
     let pre = c.requires in
-    let ok = sym c.verdict_on-verdict.ensures ∙ c.in_default-verdict.is in
-    let went = next_chosen a.l a.image.now a.key (children (page_tree a.l a.image.now) (a.level - 1) a.p) _ (sym c.child_for-next.ensures ∙ c.in-Some.is) in (
+    let ok = sym c.in_ok-verdict_on.ensures in
+    let went = next_chosen a.l a.image.now a.key (children (page_tree a.l a.image.now) (a.level - 1) a.p) _ (sym c.child_for.ensures ∙ c.in-Some.is) in (
       omega arith,
       (pre.0, ok, chosen_level a.l a.image.now a.key (a.level - 1) a.p c.in-Some.child went ok, omega arith),
     )
@@ -66,7 +69,7 @@ returns t c =
     let a = c.args in
     let pre = c.requires in
     let child = c.in-Some.child in
-    let went = next_chosen a.l a.image.now a.key (children (page_tree a.l a.image.now) (a.level - 1) a.p) _ (sym c.child_for-next.ensures ∙ c.in-Some.is) in
+    let went = next_chosen a.l a.image.now a.key (children (page_tree a.l a.image.now) (a.level - 1) a.p) _ (sym c.child_for.ensures ∙ c.in-Some.is) in
     let index = c.if-level-eq0.false in (
       c.way_from.ensures.0 ∙ end_one a.l a.image.now a.pages a.p pre.1 a.level index child a.key went,
       leads_on a.l a.image.now a.pages a.p pre.1 a.level index child a.key went _ c.way_from.ensures.1,

@@ -1,14 +1,13 @@
+use Rattle.std.proofs.Common.{rules, ◌≡◌, Err}
 use mathlib.Core.Path.{sym, ◌∙◌}
 use Rattle.tree.proofs.Ways.{start_refused}
 use Rattle.tree.proofs.check_start.Goals as goal
 
-pub returns-in_default : goal.returns-in_default
-returns-in_default c =
+pub returns-in_err-check_header : goal.returns-in_err-check_header
+returns-in_err-check_header c =
     let a = c.args in
-    start_refused a.l a.image.now _ _ c.check_header-verdict.ensures c.in_default.is
+    let e : c.from_residual.result ≡ Err c.in_err-check_header.field-0.0 = search rules in
+    e ∙ sym c.in_err-check_header.was ∙ start_refused a.l a.image.now _ _ c.check_header.ensures c.in_err-check_header.was
 
 pub check_root-requires : goal.check_root-requires
-check_root-requires c = (c.requires, sym c.check_header-verdict.ensures ∙ c.in-Ok.is)
-
-pub returns : goal.returns
-returns c = c.check_root.ensures
+check_root-requires c = (c.requires, sym c.check_header.ensures ∙ c.in_ok-check_header.was)

@@ -1,3 +1,4 @@
+use Rattle.std.proofs.Common.{rules, ◌≡◌, Err}
 use mathlib.Core.Path.{sym, ap, ◌∙◌}
 use native.Mathlib.Omega.{arith}
 use Rattle.header.proofs.HeaderLaws.{header_length}
@@ -7,14 +8,15 @@ use Rattle.keys.specs.declared.Sought.TheVariants.{AtLeast}
 use Rattle.tree.specs.Answers.{shown}
 use Rattle.tree.proofs.find_next.Goals as goal
 
-pub returns-in-Err : goal.returns-in-Err
+pub returns-in_err-check_header : goal.returns-in_err-check_header
 unfolding shown
-returns-in-Err c =
+returns-in_err-check_header c =
     let a = c.args in
-    ap (shown a.l) (root_refused a.l a.image.now AtLeast a.from _ c.check_header-verdict.ensures _ c.in-Err.is)
+    let e : c.from_residual.result ≡ Err c.in_err-check_header.field-0.0 = search rules in
+    e ∙ ap (shown a.l) (root_refused a.l a.image.now AtLeast a.from _ c.check_header.ensures _ c.in_err-check_header.was)
 
 pub root_link-p-requires : goal.root_link-p-requires
-root_link-p-requires c = (c.requires, header_length _ (sym c.check_header-verdict.ensures ∙ c.in_default.is))
+root_link-p-requires c = (c.requires, header_length _ (sym c.check_header.ensures ∙ c.in_ok-check_header.was))
 
 pub seek-requires : goal.seek-requires
 seek-requires c =
@@ -26,4 +28,4 @@ returns c =
     let a = c.args in
     c.seek.ensures
     ∙ ap (shown a.l)
-    (root_on a.l a.image.now AtLeast a.from _ c.check_header-verdict.ensures _ _ _ c.in_default.is c.root_link-p.ensures c.as_given.ensures c.stated_level-level.ensures.0)
+    (root_on a.l a.image.now AtLeast a.from _ c.check_header.ensures _ _ _ c.in_ok-check_header.was c.root_link-p.ensures c.as_given.ensures c.stated_level-level.ensures.0)

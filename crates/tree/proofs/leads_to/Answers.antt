@@ -1,19 +1,15 @@
-use mathlib.Core.Path.{sym, ap, ◌∙◌}
+use Rattle.std.proofs.Common.{rules}
 use Rattle.tree.specs.Ways.{leads_to}
 use Rattle.tree.proofs.leads_to.Goals as goal
-use Rattle.std.specs.Prelude.{Result}
-use Rattle.refusal.specs.declared.Refusal.{Refusal}
-use Rattle.tree.specs.declared.Found.{Found}
-use Rattle.page.specs.declared.Link.{Link}
 
-pub returns-in-Leaf : goal.returns-in-Leaf
+pub returns-in_default : goal.returns-in_default
 unfolding leads_to
-returns-in-Leaf c = c.in_range.ensures ∙ ap (λ (w : Result (Found Link) Refusal). leads_to w c.args.key) (sym c.in-Leaf.is)
+returns-in_default c = search rules
 
-pub returns-in-Nowhere : goal.returns-in-Nowhere
+pub returns-in_default-2 : goal.returns-in_default-2
 unfolding leads_to
-returns-in-Nowhere c = rw c.in-Nowhere.is
+returns-in_default-2 c = search rules
 
-pub returns-in-Err : goal.returns-in-Err
+pub returns : goal.returns
 unfolding leads_to
-returns-in-Err c = rw c.in-Err.is
+returns c = search rules

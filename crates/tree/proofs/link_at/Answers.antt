@@ -14,8 +14,8 @@ overflow_add-place c =
     let a = c.args in
     omega (arith, record_inside a.count a.shape.size a.i (length a.page.now) c.requires.0.inside c.requires.5)
 
-pub field_of-number-requires : goal.field_of-number-requires
-field_of-number-requires c =
+pub field_of-requires : goal.field_of-requires
+field_of-requires c =
     let a = c.args in
     omega (arith, record_inside a.count a.shape.size a.i (length a.page.now) c.requires.0.inside c.requires.5)
 
@@ -29,8 +29,8 @@ overflow_add-place-3 c =
     let a = c.args in
     omega (arith, record_inside a.count a.shape.size a.i (length a.page.now) c.requires.0.inside c.requires.5)
 
-pub field_of-offset-requires : goal.field_of-offset-requires
-field_of-offset-requires c =
+pub field_of-requires-2 : goal.field_of-requires-2
+field_of-requires-2 c =
     let a = c.args in
     omega (arith, record_inside a.count a.shape.size a.i (length a.page.now) c.requires.0.inside c.requires.5)
 
@@ -38,4 +38,4 @@ pub returns : goal.returns
 returns c =
     let a = c.args in
     link_is a.l a.shape a.count a.page.now a.to a.i a.level _ _ _ c.requires.3 c.requires.1 c.requires.2
-    c.field_of-number.ensures.0 c.field_of-offset.ensures.0 c.range_at-range.ensures
+    c.field_of.ensures.0 c.field_of-2.ensures.0 c.range_at.ensures
