@@ -114,11 +114,16 @@ module _ (t : Trailer) (image : List ℕ) (f : Result (Found Listed) Refusal) wh
   unfolding tested_by
   unlisted n g = sym (ap (tested_by (block_fits t image)) g)
 
+  -- what is found is no entry
+  pub no_entry : (g : Found Listed) → f ≡ Ok g → ((b : Listed) (n : ℕ) → g ≡ Entry b n → ⊥) → Err (BlockUnlisted at 0) ≡ tested
+  no_entry (Entry b n) e k = absurd (k b n refl)
+  no_entry (Absent n) e k = unlisted n e
+
   pub lookup_refused : (r : Refusal) → f ≡ Err r → Err r ≡ tested
   unfolding tested_by
   lookup_refused r g = sym (ap (tested_by (block_fits t image)) g)
 
-pub unblock : (d b : Listed) → Ok d ≡ Ok b → d ≡ b
+pub unblock : (d b : Listed) → ◌≡◌ {A = Result Listed Refusal} (Ok d) (Ok b) → d ≡ b
 unblock d b p = cc
 
 -- what a checked block tells
