@@ -13,7 +13,8 @@ use Rattle.block.specs.Block.{checked_block, block_bytes}
 use Rattle.block.proofs.BlockLaws.{checked_inside, bytes_length}
 use Rattle.edition.specs.declared.Edition.{Edition}
 use Rattle.node.specs.Content.{Kids, all, fault, and_kids, kids_of, total}
-use Rattle.node.specs.Steps.{measured_in, refused_in, AllListed, bytes_in, bytes_at}
+use Rattle.refusal.proofs.OrderLaws.{unrefused}
+use Rattle.node.specs.Steps.{measured_in, AllListed, bytes_in, bytes_at}
 use Rattle.node.specs.Named.{ListedAs, none, one}
 use Rattle.std.specs.Prelude.{Result, Ok, Err}
 
@@ -45,10 +46,9 @@ module _ (E : Edition) (image : List ℕ) (n : ℕ) (ns : List ℕ) (sum : ℕ) 
       ap (λ (c : Result Listed Refusal). add_to sum (measured_in (and_kids c (kids_of E image ns)))) e
       ∙ ap (add_to sum) (sum_kids b (kids_of E image ns)) ∙ sym (add_add sum b.size (measured_in (kids_of E image ns)))
 
-  pub measure_ends : (c : Result Listed Refusal) (r : Refusal) → c ≡ checked_block E image n → c ≡ Err r
-      → refused_in c ≡ add_to sum (measured_in (kids_of E image (n ∷ ns)))
-  unfolding kids_of and_kids measured_in add_to refused_in
-  measure_ends c r e q = ap refused_in q ∙ sym (ap (λ (x : Result Listed Refusal). add_to sum (measured_in (and_kids x (kids_of E image ns)))) (sym e ∙ q))
+  pub measure_ends : (r : Refusal) → checked_block E image n ≡ Err r → Err r ≡ add_to sum (measured_in (kids_of E image (n ∷ ns)))
+  unfolding kids_of and_kids measured_in add_to
+  measure_ends r e = sym (ap (λ (x : Result Listed Refusal). add_to sum (measured_in (and_kids x (kids_of E image ns)))) e)
 
 pub measure_done : (E : Edition) (image ns : List ℕ) (sum : ℕ) → ns ≡ [] → Ok sum ≡ add_to sum (measured_in (kids_of E image ns))
 unfolding kids_of measured_in add_to total
@@ -122,7 +122,7 @@ pub sum_of : (k : Kids) (s : ℕ) → measured_in k ≡ Ok s → (k ≡ all (kid
 unfolding measured_in kids_in
 sum_of (all bs) s e = (refl, unsum e)
   where
-    unsum : Ok (total bs) ≡ Ok s → total bs ≡ s
+    unsum : ◌≡◌ {A = Result ℕ Refusal} (Ok (total bs)) (Ok s) → total bs ≡ s
     unsum p = cc
 sum_of (fault r) s e = let clash : ◌≡◌ {A = ℕ} 0 1 = cc in absurd (omega arith)
 
@@ -130,6 +130,3 @@ pub fault_of : (k : Kids) (r : Refusal) → measured_in k ≡ Err r → k ≡ fa
 unfolding measured_in
 fault_of (all bs) r e = cc
 fault_of (fault q) r e = ap fault (unrefused e)
-  where
-    unrefused : Err q ≡ Err r → q ≡ r
-    unrefused p = cc

@@ -1,14 +1,11 @@
 -- What the steps of a node read come to. Assumes nothing: these are definitions.
-use Rattle.std.specs.Prelude.{ℕ, ◌≡◌, List, [], Option, None, Result, Ok, Err}
+use Rattle.std.specs.Prelude.{ℕ, ◌≡◌, List, [], Result, Ok, Err}
 use Rattle.keys.specs.Plain.{All}
 use Rattle.tree.specs.declared.Listed.{Listed}
 use Rattle.block.specs.Block.{checked_block, block_bytes}
 use Rattle.edition.specs.declared.Edition.{Edition}
 use Rattle.node.specs.Content.{Kids, all, fault, total}
 use Rattle.refusal.specs.declared.Refusal.{Refusal}
-use Rattle.tree.specs.declared.Found.{Found}
-use Rattle.tree.specs.declared.Node.{Node}
-use Rattle.tree.specs.declared.Found.TheVariants.{Absent, Entry}
 
 -- the tests of the children: the sum of their sizes, or the first refusal
 unfoldable pub measured_in : Kids → Result ℕ Refusal

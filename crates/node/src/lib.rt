@@ -86,7 +86,10 @@ fn listed_at(image: &[u8], e: Edition, way: Way, number: u64) -> Listed
     requires { FairEdition e × IsListed e image.now number × FromRoot e.blocks image.now way × (at_end e.blocks image.now way (compared e.blocks number) ≡ lookup e.blocks image.now number) }
     ensures { checked_block e image.now number ≡ Ok result }
 {
-    let Ok(Found::Entry(b, _)) = tree::block_at(image, e.blocks, way, number) else {
+    let Ok(found) = tree::block_at(image, e.blocks, way, number) else {
+        unreachable!();
+    };
+    let Found::Entry(b, _) = found else {
         unreachable!();
     };
     b

@@ -45,7 +45,7 @@ loop-i-init c =
 
 pub number_at-child-requires : goal.number_at-child-requires
 number_at-child-requires c =
-    (c.requires.fair_edition.0.tree, number_inside c.args.e.tree.word c.args.count c.loop-i.i c.args.root.now c.requires.fair_edition.1 c.loop-i-test.true, omega arith)
+    (c.requires.fair_edition.0.tree, number_inside c.args.e.tree.word c.args.count c.loop-i.i c.args.root.now c.requires.fair_edition.1 (omega arith), omega arith)
 
 pub way_to-way-requires : goal.way_to-way-requires
 way_to-way-requires c = (c.requires.fair_edition.0.blocks, c.loop-i.invariant.6, c.loop-i.invariant.7)
@@ -71,12 +71,6 @@ block_into-requires c =
 
 pub overflow_add-n : goal.overflow_add-n
 overflow_add-n c = omega (arith, space c.args.e c.args.image.now c.args.root.now c.args.count c.loop-i.i c.loop-i.n _ (sym (ap (checked_block c.args.e c.args.image.now) c.number_at-child.ensures) ∙ c.listed_at-b.ensures) (omega arith) c.loop-i.invariant.4 c.loop-i.invariant.1, c.requires.count_in_bounds)
-
-pub overflow_add-i : goal.overflow_add-i
-overflow_add-i c = omega arith
-
-pub loop-i-smaller : goal.loop-i-smaller
-loop-i-smaller c = omega arith
 
 pub loop-i-preserved : goal.loop-i-preserved
 loop-i-preserved c =

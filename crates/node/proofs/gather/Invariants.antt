@@ -1,4 +1,4 @@
-use Prim.Native.Nat.{◌-◌, ◌≤◌}
+use Prim.Native.Nat.{◌≤◌}
 use mathlib.Core.Path.{◌≡◌}
 use lib.ListN.{length, take, drop}
 use Rattle.keys.specs.Search.{joined}
@@ -15,6 +15,3 @@ invariant-loop-i l =
     (l.i ≤ l.count) × (l.n ≤ length whole) × (length l.out ≡ length l.initial.out) × AllListed l.e l.image (rest l.e.tree l.root l.count l.i)
     × (drop l.n whole ≡ joined (bytes_at l.e l.image) (rest l.e.tree l.root l.count l.i)) × (l.out ≡ fronted (take l.n whole) l.initial.out)
     × (l.start ≡ start_fits l.e.blocks l.image) × FromRoot l.e.blocks l.image l.way
-
-abbrev pub decreases-loop-i : goal.decreases-loop-i
-decreases-loop-i l = l.count - l.i

@@ -1,15 +1,14 @@
+use Rattle.std.proofs.Common.{sym, ap, ◌∙◌, Ok}
 use Rattle.block.proofs.BlockLaws.{checked_same, checked_not_absent, checked_not_refused}
-use mathlib.Core.Path.{sym, ap, ◌∙◌}
 use Rattle.node.proofs.listed_at.Goals as goal
-use Rattle.std.specs.Prelude.{Ok}
 
-pub returns-in-Found : goal.returns-in-Found
-returns-in-Found c =
+pub unreachable-requires : goal.unreachable-requires
+unreachable-requires c = checked_not_refused _ _ _ _ _ c.requires.1.is (sym c.block_at.ensures ∙ c.in_default.is)
+
+pub unreachable-requires-in_default-found : goal.unreachable-requires-in_default-found
+unreachable-requires-in_default-found c = checked_not_absent _ _ _ _ _ c.requires.1.is (sym c.block_at.ensures ∙ (c.in-Ok.is ∙ ap Ok c.in_default-found.is))
+
+pub returns : goal.returns
+returns c =
     let l = c.requires.1 in
-    l.is ∙ ap Ok (sym (checked_same _ _ _ _ _ _ l.is (sym c.block_at-found.ensures ∙ c.in-Found.is)))
-
-pub returns-in-Absent : goal.returns-in-Absent
-returns-in-Absent c = absurd (checked_not_absent _ _ _ _ _ c.requires.1.is (sym c.block_at-found.ensures ∙ c.in-Absent.is))
-
-pub returns-in-Err : goal.returns-in-Err
-returns-in-Err c = absurd (checked_not_refused _ _ _ _ _ c.requires.1.is (sym c.block_at-found.ensures ∙ c.in-Err.is))
+    l.is ∙ ap Ok (sym (checked_same _ _ _ _ _ _ l.is (sym c.block_at.ensures ∙ (c.in-Ok.is ∙ ap Ok c.in-Entry.is))))

@@ -1,7 +1,7 @@
 use Rattle.tree.proofs.Ways.{leads_nowhere}
 use Rattle.block.specs.Block.{checked_block}
 use Prim.Native.Nat.{ℕ, ◌+◌}
-use mathlib.Core.Path.{sym, ap, ◌∙◌}
+use Rattle.std.proofs.Common.{rules, ◌≡◌, sym, ap, ◌∙◌, Err}
 use mathlib.Core.List.{List}
 use native.Mathlib.Omega.{arith}
 use Rattle.node.specs.Content.{number_at, kids_of}
@@ -26,16 +26,17 @@ number_at-number-requires c =
 pub way_to-way-requires : goal.way_to-way-requires
 way_to-way-requires c = (c.requires.0.blocks, c.loop-i.invariant.3, c.loop-i.invariant.4)
 
-pub check_block_at-checked-requires : goal.check_block_at-checked-requires
-check_block_at-checked-requires c = (c.requires.0, c.way_to-way.ensures.1, c.way_to-way.ensures.0)
+pub check_block_at-requires : goal.check_block_at-requires
+check_block_at-requires c = (c.requires.0, c.way_to-way.ensures.1, c.way_to-way.ensures.0)
 
-pub returns-in_default : goal.returns-in_default
-returns-in_default c =
+pub returns-in_err-sum : goal.returns-in_err-sum
+returns-in_err-sum c =
     let a = c.args in
     let l = c.loop-i in
-    c.refused_measure.ensures
-    ∙ measure_ends a.e a.image.now (number_at a.e.tree a.root.now l.i) (rest a.e.tree a.root.now a.count (l.i + 1)) l.sum _ _
-    (c.check_block_at-checked.ensures ∙ ap (checked_block a.e a.image.now) c.number_at-number.ensures) c.in_default.is
+    let e : c.from_residual.result ≡ Err c.in_err-sum.field-0.0 = search rules in
+    e
+    ∙ measure_ends a.e a.image.now (number_at a.e.tree a.root.now l.i) (rest a.e.tree a.root.now a.count (l.i + 1)) l.sum _
+    (sym (ap (checked_block a.e a.image.now) c.number_at-number.ensures) ∙ sym c.in_err-sum.ensures)
     ∙ ap (λ (ns : List ℕ). add_to l.sum (measured_in (kids_of a.e a.image.now ns))) (sym (rest_at a.e.tree a.root.now a.count l.i (omega arith)))
     ∙ sym l.invariant.2
 
@@ -43,24 +44,17 @@ pub overflow_add-sum : goal.overflow_add-sum
 overflow_add-sum c =
     let a = c.args in
     let l = c.loop-i in
-    omega (arith, c.requires.0.trailer.most, checked_size a.e a.image.now _ _ (sym (ap (checked_block a.e a.image.now) c.number_at-number.ensures) ∙ sym c.check_block_at-checked.ensures ∙ c.in-Ok.is))
-
-pub overflow_add-i : goal.overflow_add-i
-overflow_add-i c = omega arith
-
-pub loop-i-smaller : goal.loop-i-smaller
-loop-i-smaller c = omega arith
+    omega (arith, c.requires.0.trailer.most, checked_size a.e a.image.now _ _ (sym (ap (checked_block a.e a.image.now) c.number_at-number.ensures) ∙ sym c.in_ok-sum.ensures))
 
 pub loop-i-preserved : goal.loop-i-preserved
 loop-i-preserved c =
     let a = c.args in
-    let l = c.loop-i in
-    let more = c.loop-i-test.true in (
-      omega (arith, more),
-      omega (arith, c.requires.0.trailer.most, checked_size a.e a.image.now _ _ (sym (ap (checked_block a.e a.image.now) c.number_at-number.ensures) ∙ sym c.check_block_at-checked.ensures ∙ c.in-Ok.is)),
+    let l = c.loop-i in (
+      omega arith,
+      omega (arith, c.requires.0.trailer.most, checked_size a.e a.image.now _ _ (sym (ap (checked_block a.e a.image.now) c.number_at-number.ensures) ∙ sym c.in_ok-sum.ensures)),
       l.invariant.2
-          ∙ ap (λ (ns : List ℕ). add_to l.sum (measured_in (kids_of a.e a.image.now ns))) (rest_at a.e.tree a.root.now a.count l.i more)
-          ∙ measure_on a.e a.image.now (number_at a.e.tree a.root.now l.i) (rest a.e.tree a.root.now a.count (l.i + 1)) l.sum _ (sym (ap (checked_block a.e a.image.now) c.number_at-number.ensures) ∙ sym c.check_block_at-checked.ensures ∙ c.in-Ok.is),
+          ∙ ap (λ (ns : List ℕ). add_to l.sum (measured_in (kids_of a.e a.image.now ns))) (rest_at a.e.tree a.root.now a.count l.i (omega arith))
+          ∙ measure_on a.e a.image.now (number_at a.e.tree a.root.now l.i) (rest a.e.tree a.root.now a.count (l.i + 1)) l.sum _ (sym (ap (checked_block a.e a.image.now) c.number_at-number.ensures) ∙ sym c.in_ok-sum.ensures),
       l.invariant.3,
       c.way_to-way.ensures.1,
     )

@@ -19,12 +19,6 @@ returns-then-is_internal c =
     let l = c.loop-i in
     sym (l.invariant.1 ∙ internal_here a.d a.root.now a.count l.i (omega arith) (ap internal (sym c.number_at.ensures) ∙ sym c.is_internal.ensures ∙ c.if-is_internal.true))
 
-pub overflow_add-i : goal.overflow_add-i
-overflow_add-i c = omega arith
-
-pub loop-i-smaller : goal.loop-i-smaller
-loop-i-smaller c = omega arith
-
 pub loop-i-preserved : goal.loop-i-preserved
 loop-i-preserved c =
     let a = c.args in

@@ -9,7 +9,7 @@ pub returns-then-out-size : goal.returns-then-out-size
 returns-then-out-size c =
     let a = c.args in
     let o = short_outcome (block_bytes a.image.now a.b) a.out.now a.b.size (sym (bytes_length a.image.now a.b c.requires.1)) (omega arith) in
-    record { answer = c.short_buffer.ensures ∙ o.0; buffer = o.1 }
+    record { answer = c.refused_needing.ensures ∙ o.0; buffer = o.1 }
 
 pub returns : goal.returns
 returns c =
