@@ -1,22 +1,11 @@
 use Rattle.std.proofs.Common.{rules, ◌≡◌, Err}
-use mathlib.Core.Path.{refl, sym, ◌∙◌}
+use mathlib.Core.Path.{sym, ◌∙◌}
 use native.Mathlib.Omega.{arith}
 use Rattle.tree.specs.Answers.{kids_from}
 use Rattle.tree.proofs.Walk.{walk_none, walk_refused, walk_on, page_refused, page_alone, page_leaf, page_index}
 use Rattle.tree.proofs.Children.{more, no_more}
 use Rattle.tree.proofs.+check_children_check_under.Goals as goal
 use Rattle.tree.proofs.+check_children_check_under.Goals.{check_children-then-level-eq0+in_ok-verdict_on, check_children-else-level-eq0+in_ok-check_under}
-
-pub check_children-loop-i-init : goal.check_children-loop-i-init
-check_children-loop-i-init t c = (omega arith, refl)
-
-pub check_children-link_for-child-requires : goal.check_children-link_for-child-requires
-check_children-link_for-child-requires t c =
-    let pre = c.requires in
-    (pre.0, pre.1, c.entry_for-entry.ensures, c.count_for-count.ensures.0, omega arith)
-
-pub check_children-verdict_on-requires : goal.check_children-verdict_on-requires
-check_children-verdict_on-requires t c = c.requires.0
 
 pub check_children-returns-in_err-verdict_on : goal.check_children-returns-in_err-verdict_on
 check_children-returns-in_err-verdict_on t c =
@@ -25,11 +14,6 @@ check_children-returns-in_err-verdict_on t c =
     let child = c.link_for-child in
     let e : c.from_residual.result ≡ Err c.in_err-verdict_on.field-0.0 = search rules in
     e ∙ sym c.in_err-verdict_on.was ∙ walk_refused a.l a.image.now a.level _ _ _ _ (more a.l a.image.now a.level a.p l.i child.result child.ensures).1 (page_alone a.l a.image.now a.level child.result _ c.verdict_on.ensures c.if-level-eq0.true) _ c.in_err-verdict_on.was ∙ l.invariant.1
-
-pub check_children-check_under-requires : goal.check_children-check_under-requires
-check_children-check_under-requires t c =
-    let pre = c.requires in
-    (omega arith, pre.0)
 
 pub check_children-returns-in_err-check_under : goal.check_children-returns-in_err-check_under
 check_children-returns-in_err-check_under t c =
@@ -70,14 +54,6 @@ pub check_under-returns-then-level-eq0 : goal.check_under-returns-then-level-eq0
 check_under-returns-then-level-eq0 t c =
     let a = c.args in
     page_leaf a.l a.image.now a.level a.p _ c.verdict_on.ensures c.if-level-eq0.true c.in_ok-verdict_on.was
-
-pub check_under-overflow_sub-level : goal.check_under-overflow_sub-level
-check_under-overflow_sub-level t c = omega arith
-
-pub check_under-check_children-requires : goal.check_under-check_children-requires
-check_under-check_children-requires t c =
-    let pre = c.requires in
-    (omega arith, (pre, sym c.verdict_on.ensures ∙ c.in_ok-verdict_on.was))
 
 pub check_under-returns : goal.check_under-returns
 check_under-returns t c =

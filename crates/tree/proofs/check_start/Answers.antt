@@ -8,6 +8,3 @@ returns-in_err-check_header c =
     let a = c.args in
     let e : c.from_residual.result ≡ Err c.in_err-check_header.field-0.0 = search rules in
     e ∙ sym c.in_err-check_header.was ∙ start_refused a.l a.image.now _ _ c.check_header.ensures c.in_err-check_header.was
-
-pub check_root-requires : goal.check_root-requires
-check_root-requires c = (c.requires, sym c.check_header.ensures ∙ c.in_ok-check_header.was)
