@@ -3,7 +3,7 @@ use mathlib.Core.Path.{◌≡◌, refl, sym, ap, ◌∙◌}
 use mathlib.Core.List.{List}
 use native.Mathlib.Omega.{arith}
 use lib.ListN.{length, get_or, take}
-use lib.Seq.{take_all, length-take-le}
+use lib.Seq.{length-take-le}
 use Rattle.laws.specs.Front.{fronted}
 use Rattle.keys.specs.Search.{joined}
 use Rattle.keys.proofs.Pieces.{pieces_length, pieces_on}
@@ -17,20 +17,11 @@ use Rattle.nodelist.proofs.fill.Goals as goal
 so_far : (L : Layout) (image nodes : List ℕ) (i : ℕ) → i ≤ length nodes → 9 * i ≡ length (places_of L image (take i nodes))
 so_far L image nodes i h = sym (pieces_length (place_of L image) 9 (place_length L image) (take i nodes) ∙ ap (λ (k : ℕ). 9 * k) (length-take-le i nodes h))
 
-pub check_start-start-requires : goal.check_start-start-requires
-check_start-start-requires c = c.requires.0
-
 pub loop-i-init : goal.loop-i-init
 unfolding joined
 loop-i-init c =
     let a = c.args in
     (leads_nowhere a.l a.image.now _ _ _ _, refl)
-
-pub way_to-way-requires : goal.way_to-way-requires
-way_to-way-requires c = (c.requires.0, c.check_start-start.ensures, c.loop-i.invariant.0)
-
-pub node_at-requires : goal.node_at-requires
-node_at-requires c = (c.requires.0, c.way_to-way.ensures.1, c.way_to-way.ensures.0)
 
 pub loop-i-preserved : goal.loop-i-preserved
 loop-i-preserved c =
@@ -42,9 +33,3 @@ loop-i-preserved c =
       place_written a.places.now (places_of a.l a.image.now (take l.i nodes)) _ _ l.places (9 * l.i) (9 * l.i + 9 - 9 * l.i) l.invariant.1 (so_far a.l a.image.now nodes l.i (omega arith)) (let n = place_length a.l a.image.now (get_or nodes l.i 0) in omega arith) words
           ∙ ap (λ (x : List ℕ). fronted x a.places.now) (sym (pieces_on (place_of a.l a.image.now) 9 (place_length a.l a.image.now) nodes l.i (omega arith))),
     )
-
-pub returns : goal.returns
-returns c =
-    let a = c.args in
-    let l = c.loop-i in
-    l.invariant.1 ∙ ap (λ (x : List ℕ). fronted (places_of a.l a.image.now x) a.places.now) (take_all l.i a.nodes.now (omega arith))

@@ -2,7 +2,6 @@ use mathlib.Core.Path.{◌∙◌}
 use native.Mathlib.Omega.{arith}
 use lib.ListN.{length}
 use Rattle.nodelist.proofs.ListLaws.{too_many, too_short, taken, area_left, area_filled, area_kept}
-use borrow.Author.Rules.{rules}
 use Rattle.nodelist.proofs.find_nodes.Goals as goal
 
 -- over 4,096
@@ -18,9 +17,6 @@ returns-then-places-count c =
     let lent = c.args in
     let e = too_short (length lent.nodes.now) (length lent.places.now) (omega arith) (omega arith) in
     record { answer = c.refused_needing-then-places-count.ensures ∙ e; area = area_left lent.l lent.image.now lent.nodes.now lent.places.now _ e }
-
-pub fill-requires : goal.fill-requires
-fill-requires c = (search rules, omega arith, omega arith)
 
 pub returns-then-count-gt0 : goal.returns-then-count-gt0
 returns-then-count-gt0 c =

@@ -1,5 +1,5 @@
 use Rattle.std.proofs.Common.{rules, ◌≡◌, Err}
-use mathlib.Core.Path.{refl, sym, ◌∙◌}
+use mathlib.Core.Path.{refl, ◌∙◌}
 use native.Mathlib.Omega.{arith}
 use Rattle.tree.specs.Answers.{kids_from}
 use Rattle.tree.proofs.Walk.{walk_none, walk_refused, walk_on, page_refused, page_alone, page_leaf, page_index}
@@ -7,29 +7,13 @@ use Rattle.tree.proofs.Children.{more, no_more}
 use Rattle.tree.proofs.+check_children_check_under.Goals as goal
 use Rattle.tree.proofs.+check_children_check_under.Goals.{check_children-then-level-eq0+in_ok-verdict_on, check_children-else-level-eq0+in_ok-check_under}
 
-pub check_children-loop-i-init : goal.check_children-loop-i-init
-check_children-loop-i-init t c = (omega arith, refl)
-
-pub check_children-link_for-child-requires : goal.check_children-link_for-child-requires
-check_children-link_for-child-requires t c =
-    let pre = c.requires in
-    (pre.0, pre.1, c.entry_for-entry.ensures, c.count_for-count.ensures.0, omega arith)
-
-pub check_children-verdict_on-requires : goal.check_children-verdict_on-requires
-check_children-verdict_on-requires t c = c.requires.0
-
 pub check_children-returns-in_err-verdict_on : goal.check_children-returns-in_err-verdict_on
 check_children-returns-in_err-verdict_on t c =
     let a = c.args in
     let l = c.loop-i in
     let child = c.link_for-child in
     let e : c.from_residual.result ≡ Err c.in_err-verdict_on.field-0.0 = search rules in
-    e ∙ sym c.in_err-verdict_on.was ∙ walk_refused a.l a.image.now a.level _ _ _ _ (more a.l a.image.now a.level a.p l.i child.result child.ensures).1 (page_alone a.l a.image.now a.level child.result _ c.verdict_on.ensures c.if-level-eq0.true) _ c.in_err-verdict_on.was ∙ l.invariant.1
-
-pub check_children-check_under-requires : goal.check_children-check_under-requires
-check_children-check_under-requires t c =
-    let pre = c.requires in
-    (omega arith, pre.0)
+    e ∙ walk_refused a.l a.image.now a.level _ _ _ _ (more a.l a.image.now a.level a.p l.i child.result child.ensures).1 (page_alone a.l a.image.now a.level child.result _ c.in_err-verdict_on.ensures c.if-level-eq0.true) _ refl ∙ l.invariant
 
 pub check_children-returns-in_err-check_under : goal.check_children-returns-in_err-check_under
 check_children-returns-in_err-check_under t c =
@@ -37,49 +21,39 @@ check_children-returns-in_err-check_under t c =
     let l = c.loop-i in
     let child = c.link_for-child in
     let e : c.from_residual-in_err-check_under.result ≡ Err c.in_err-check_under.field-0.0 = search rules in
-    e ∙ sym c.in_err-check_under.was ∙ walk_refused a.l a.image.now a.level _ _ _ _ (more a.l a.image.now a.level a.p l.i child.result child.ensures).1 c.check_under.ensures _ c.in_err-check_under.was ∙ l.invariant.1
+    e ∙ walk_refused a.l a.image.now a.level _ _ _ _ (more a.l a.image.now a.level a.p l.i child.result child.ensures).1 c.in_err-check_under.ensures _ refl ∙ l.invariant
 
 pub check_children-loop-i-preserved : goal.check_children-loop-i-preserved
 check_children-loop-i-preserved t c =
     let a = c.args in
     let l = c.loop-i in
     let child = c.link_for-child in
-    let kids = (more a.l a.image.now a.level a.p l.i child.result child.ensures).1 in (
-      omega arith,
-      elim c.if-level-eq0.branch [
-        | check_children-then-level-eq0+in_ok-verdict_on w ↦ walk_on a.l a.image.now a.level _ _ _ _ kids (page_alone a.l a.image.now a.level child.result _ w.verdict_on.ensures w.if-level-eq0.true) w.in_ok-verdict_on.was
-        | check_children-else-level-eq0+in_ok-check_under w ↦ walk_on a.l a.image.now a.level _ _ _ _ kids w.check_under.ensures w.in_ok-check_under.was
-      ]
-          ∙ l.invariant.1,
-    )
+    let kids = (more a.l a.image.now a.level a.p l.i child.result child.ensures).1 in
+    elim c.if-level-eq0.branch [
+      | check_children-then-level-eq0+in_ok-verdict_on w ↦ walk_on a.l a.image.now a.level _ _ _ _ kids (page_alone a.l a.image.now a.level child.result _ w.in_ok-verdict_on.ensures w.if-level-eq0.true) refl
+      | check_children-else-level-eq0+in_ok-check_under w ↦ walk_on a.l a.image.now a.level _ _ _ _ kids w.in_ok-check_under.ensures refl
+    ]
+    ∙ l.invariant
 
 pub check_children-returns : goal.check_children-returns
 check_children-returns t c =
     let a = c.args in
     let l = c.loop-i in
     let most = c.count_for-count.ensures.0 in
-    walk_none a.l a.image.now a.level (kids_from a.l a.image.now a.level a.p l.i) (no_more a.l a.image.now a.level a.p l.i (omega (arith, most))) ∙ l.invariant.1
+    walk_none a.l a.image.now a.level (kids_from a.l a.image.now a.level a.p l.i) (no_more a.l a.image.now a.level a.p l.i (omega (arith, most))) ∙ l.invariant
 
 pub check_under-returns-in_err-verdict_on : goal.check_under-returns-in_err-verdict_on
 check_under-returns-in_err-verdict_on t c =
     let a = c.args in
     let e : c.from_residual.result ≡ Err c.in_err-verdict_on.field-0.0 = search rules in
-    e ∙ sym c.in_err-verdict_on.was ∙ page_refused a.l a.image.now a.level a.p _ c.verdict_on.ensures _ c.in_err-verdict_on.was
+    e ∙ page_refused a.l a.image.now a.level a.p _ c.in_err-verdict_on.ensures _ refl
 
 pub check_under-returns-then-level-eq0 : goal.check_under-returns-then-level-eq0
 check_under-returns-then-level-eq0 t c =
     let a = c.args in
-    page_leaf a.l a.image.now a.level a.p _ c.verdict_on.ensures c.if-level-eq0.true c.in_ok-verdict_on.was
-
-pub check_under-overflow_sub-level : goal.check_under-overflow_sub-level
-check_under-overflow_sub-level t c = omega arith
-
-pub check_under-check_children-requires : goal.check_under-check_children-requires
-check_under-check_children-requires t c =
-    let pre = c.requires in
-    (omega arith, (pre, sym c.verdict_on.ensures ∙ c.in_ok-verdict_on.was))
+    page_leaf a.l a.image.now a.level a.p _ c.in_ok-verdict_on.ensures c.if-level-eq0.true refl
 
 pub check_under-returns : goal.check_under-returns
 check_under-returns t c =
     let a = c.args in
-    c.check_children.ensures ∙ page_index a.l a.image.now a.level a.p _ c.verdict_on.ensures c.if-level-eq0.false c.in_ok-verdict_on.was
+    c.check_children.ensures ∙ page_index a.l a.image.now a.level a.p _ c.in_ok-verdict_on.ensures c.if-level-eq0.false refl

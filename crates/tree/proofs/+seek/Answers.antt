@@ -19,22 +19,10 @@ returns-in_err-verdict_on t c =
     let e : c.from_residual.result ≡ Err c.in_err-verdict_on.field-0.0 = search rules in
     e ∙ way_refused a.l a.image.now AtLeast a.key a.pages a.p _ c.in_err-verdict_on.ensures a.level _ refl
 
-pub leaf_for-requires : goal.leaf_for-requires
-leaf_for-requires t c =
-    let ok = sym c.in_ok-verdict_on.ensures in
-    let pre = c.requires in
-    (pre.0, ok, pre.1 ok ∙ c.if-level-eq0.true)
-
 pub returns-then-level-eq0 : goal.returns-then-level-eq0
 returns-then-level-eq0 t c =
     let a = c.args in
     c.leaf_for.ensures ∙ (way_leaf a.l a.image.now AtLeast a.key a.pages a.p _ c.in_ok-verdict_on.ensures a.level c.if-level-eq0.true refl)
-
-pub start_for-i-requires : goal.start_for-i-requires
-start_for-i-requires t c = (c.requires.0, sym c.in_ok-verdict_on.ensures)
-
-pub child_at-requires : goal.child_at-requires
-child_at-requires t c = (c.requires.0, sym c.in_ok-verdict_on.ensures)
 
 pub returns-in_default : goal.returns-in_default
 returns-in_default t c =
@@ -64,9 +52,6 @@ pub returns-in_default-found : goal.returns-in_default-found
 returns-in_default-found t c =
     let a = c.args in
     seek_first a.l a.image.now a.key a.pages a.p _ c.in_ok-verdict_on.ensures a.level _ c.if-level-eq0.false refl c.start_for-i.ensures.0 _ _ _ (more a.l a.image.now (a.level - 1) a.p _ c.in-Some.child (sym c.child_at.ensures ∙ c.in-Some.is)).1 c.in_ok-found.ensures (entry_stays _ c.in_default-found.not-Absent)
-
-pub child_at-requires-2 : goal.child_at-requires-2
-child_at-requires-2 t c = (c.requires.0, sym c.in_ok-verdict_on.ensures)
 
 pub returns-in_default-child_at : goal.returns-in_default-child_at
 returns-in_default-child_at t c =

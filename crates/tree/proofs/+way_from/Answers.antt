@@ -8,23 +8,11 @@ use Rattle.tree.proofs.Steps.{next_chosen, next_missing, chosen_level}
 use Rattle.tree.proofs.Ways.{end_leaf, leads_leaf, end_none, end_one, end_refused, leads_on, leads_nowhere, leads_refused}
 use Rattle.tree.proofs.+way_from.Goals as goal
 
-pub overflow_add-result : goal.overflow_add-result
-overflow_add-result t c = omega arith
-
 pub returns-then-level-eq0 : goal.returns-then-level-eq0
 returns-then-level-eq0 t c =
     let a = c.args in
     let pre = c.requires in
     (end_leaf a.l a.image.now a.pages a.p pre.1 a.key a.level c.if-level-eq0.true, leads_leaf a.l a.image.now a.pages a.p pre.1 a.level c.if-level-eq0.true pre.2)
-
-pub overflow_sub-level : goal.overflow_sub-level
-overflow_sub-level t c = omega arith
-
-pub child_for-requires : goal.child_for-requires
-child_for-requires t c = (c.requires.0, c.requires.1)
-
-pub overflow_add-result-in_default : goal.overflow_add-result-in_default
-overflow_add-result-in_default t c = omega arith
 
 pub returns-in_default : goal.returns-in_default
 returns-in_default t c =
@@ -33,9 +21,6 @@ returns-in_default t c =
       end_none a.l a.image.now a.pages a.p pre.1 a.level c.if-level-eq0.false a.key (next_missing _ (sym c.child_for.ensures ∙ c.in_default.is)),
       leads_nowhere a.l a.image.now _ _ _ _,
     )
-
-pub verdict_on-requires : goal.verdict_on-requires
-verdict_on-requires t c = c.requires.0
 
 pub returns-in_err-verdict_on : goal.returns-in_err-verdict_on
 returns-in_err-verdict_on t c =
@@ -47,12 +32,6 @@ returns-in_err-verdict_on t c =
       end_refused a.l a.image.now a.pages a.p pre.1 a.level c.if-level-eq0.false c.in-Some.child a.key went _ (sym c.in_err-verdict_on.ensures),
       leads_refused a.l a.image.now _ _ _ _,
     )
-
-pub overflow_sub-level-2 : goal.overflow_sub-level-2
-overflow_sub-level-2 t c = omega arith
-
-pub overflow_add-pages : goal.overflow_add-pages
-overflow_add-pages t c = omega arith
 
 pub way_from-requires : goal.way_from-requires
 way_from-requires t c =

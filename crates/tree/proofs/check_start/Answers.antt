@@ -1,5 +1,5 @@
 use Rattle.std.proofs.Common.{rules, ◌≡◌, Err}
-use mathlib.Core.Path.{sym, ◌∙◌}
+use mathlib.Core.Path.{refl, ◌∙◌}
 use Rattle.tree.proofs.Ways.{start_refused}
 use Rattle.tree.proofs.check_start.Goals as goal
 
@@ -7,7 +7,4 @@ pub returns-in_err-check_header : goal.returns-in_err-check_header
 returns-in_err-check_header c =
     let a = c.args in
     let e : c.from_residual.result ≡ Err c.in_err-check_header.field-0.0 = search rules in
-    e ∙ sym c.in_err-check_header.was ∙ start_refused a.l a.image.now _ _ c.check_header.ensures c.in_err-check_header.was
-
-pub check_root-requires : goal.check_root-requires
-check_root-requires c = (c.requires, sym c.check_header.ensures ∙ c.in_ok-check_header.was)
+    e ∙ start_refused a.l a.image.now _ _ c.in_err-check_header.ensures refl

@@ -1,6 +1,6 @@
 use mathlib.Core.Path.{◌∙◌}
 use native.Mathlib.Omega.{arith}
-use Rattle.page.proofs.PageLaws.{page_part, page_length}
+use Rattle.page.proofs.PageLaws.{page_part}
 use Rattle.tree.proofs.Walk.{accepted_inside}
 use Rattle.tree.proofs.entry_for.Goals as goal
 
@@ -9,13 +9,6 @@ overflow_add-at c = omega (arith, accepted_inside _ _ _ c.requires.1)
 
 pub slice_bounds-shape_in-end : goal.slice_bounds-shape_in-end
 slice_bounds-shape_in-end c = omega (arith, accepted_inside _ _ _ c.requires.1)
-
-pub shape_in-requires : goal.shape_in-requires
-shape_in-requires c =
-    let a = c.args in
-    let pre = c.requires in
-    rw (page_part a.image.now a.p.offset)
-    (pre.0, page_length a.image.now a.p.offset (accepted_inside a.l a.image.now a.p pre.1))
 
 pub returns : goal.returns
 returns c = c.shape_in.ensures ∙ rw page_part

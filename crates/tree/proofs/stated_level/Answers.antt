@@ -1,7 +1,7 @@
 use mathlib.Core.Path.{◌∙◌}
 use native.Mathlib.Omega.{arith}
 use Rattle.laws.proofs.Tests.{fails, holds, not_both}
-use Rattle.page.proofs.PageLaws.{offset_inside, page_part, page_length}
+use Rattle.page.proofs.PageLaws.{offset_inside, page_part}
 use Rattle.tree.proofs.stated_level.Goals as goal
 
 pub returns-then-not-offset_fits : goal.returns-then-not-offset_fits
@@ -12,12 +12,6 @@ overflow_add-at c = omega (arith, offset_inside _ _ (holds _ _ c.offset_fits.ens
 
 pub slice_bounds-level_of-end : goal.slice_bounds-level_of-end
 slice_bounds-level_of-end c = omega (arith, offset_inside _ _ (holds _ _ c.offset_fits.ensures c.if-not-offset_fits.false))
-
-pub level_of-requires : goal.level_of-requires
-level_of-requires c =
-    let a = c.args in
-    rw (page_part a.image.now a.offset)
-    (c.requires, page_length a.image.now a.offset (offset_inside _ _ (holds _ _ c.offset_fits.ensures c.if-not-offset_fits.false)))
 
 pub returns : goal.returns
 returns c = (λ e. c.level_of.ensures.0 ∙ rw page_part, omega arith)
