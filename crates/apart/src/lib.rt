@@ -8,7 +8,7 @@ ghost use Rattle.columns.specs.Sound.{RecordSound};
 ghost use Rattle.apart.specs.Steps.{marked, Free, New, Differ};
 
 use columns::Column;
-use keys::{End, Range, Shape};
+use keys::{Range, Shape};
 
 fn are_apart(one: Column, other: Column) -> bool
     requires { (one.offset < 65536) × (one.width < 256) × (other.offset < 65536) × (other.width < 256) }
@@ -25,10 +25,8 @@ fn apart_from(table: &[u8], column: Column, n: usize) -> bool
     ensures { result ≡ apart_from table.now column n }
 {
     let mut fits = true;
-    let mut i: usize = 0;
-    while i < n {
-        fits = fits & are_apart(columns::column_at(table, i), column);
-        i += 1;
+    for i in 0..n {
+        fits &= are_apart(columns::column_at(table, i), column);
     }
     fits
 }
@@ -40,10 +38,8 @@ fn apart_by_pairs(table: &[u8]) -> bool
 {
     let count = columns::column_count(table);
     let mut fits = true;
-    let mut i: usize = 0;
-    while i < count {
-        fits = fits & apart_from(table, columns::column_at(table, i), i);
-        i += 1;
+    for i in 0..count {
+        fits &= apart_from(table, columns::column_at(table, i), i);
     }
     fits
 }
@@ -55,11 +51,9 @@ fn claim(marks: &mut [u8], from: usize, count: usize) -> bool
     ensures marks { marks.new ≡ marked marks.old from count }
 {
     let mut free = true;
-    let mut i: usize = 0;
-    while i < count {
-        free = free & (marks[from + i] == 0);
+    for i in 0..count {
+        free &= marks[from + i] == 0;
         marks[from + i] = 1;
-        i += 1;
     }
     free
 }
@@ -92,10 +86,7 @@ fn tags_climb(table: &[u8]) -> bool
         width: 4,
         reserved: false,
     };
-    let range = Range {
-        from: 0,
-        to: None,
-    };
+    let range = Range { from: 0, to: None };
     keys::is_climbing(keys::check_keys(&table[22..end], shape, count, range))
 }
 
@@ -106,10 +97,8 @@ fn is_new(tags: &[u32; 256], n: usize, tag: u32) -> bool
     ensures { result ≡ true → New tags.now n tag }
 {
     let mut new = true;
-    let mut i: usize = 0;
-    while i < n {
-        new = new & (tags[i] != tag);
-        i += 1;
+    for other in &tags[..n] {
+        new &= *other != tag;
     }
     new
 }
@@ -122,12 +111,10 @@ fn tags_differ(table: &[u8]) -> bool
     let count = columns::column_count(table);
     let mut tags = [0u32; 256];
     let mut differ = true;
-    let mut i: usize = 0;
-    while i < count {
+    for i in 0..count {
         let column = columns::column_at(table, i);
-        differ = differ & is_new(&tags, i, column.tag);
+        differ &= is_new(&tags, i, column.tag);
         tags[i] = column.tag;
-        i += 1;
     }
     differ
 }
@@ -141,13 +128,11 @@ fn apart_by_marks(table: &[u8], bytes: &mut [u8]) -> bool
     let count = columns::column_count(table);
     let mut bits = [0u8; 256];
     let mut sure = true;
-    let mut i: usize = 0;
-    while i < count {
+    for i in 0..count {
         let column = columns::column_at(table, i);
         let bytes_free = claim_bytes(bytes, column.offset, column.width);
         let bit_free = claim(&mut bits, column.bit, 1);
-        sure = sure & bytes_free & bit_free;
-        i += 1;
+        sure &= bytes_free & bit_free;
     }
     sure
 }

@@ -7,10 +7,10 @@ ghost use Rattle.columns.specs.Record.{column_count, existence_start, row_size_o
 ghost use Rattle.columns.specs.Columns.{column_at, reference, refers as refers_of, width_fits, column_fits, each_fits, seat_of};
 ghost use Rattle.columns.specs.Sound.{RecordSound};
 
-use keys::{Seat, Shape, Sought};
+use keys::{Shape, Sought};
 
 // Where a column's bytes stand in a row, and which existence bit is its own.
-#[derive(Clone, Copy)]
+#[derive(Clone, Copy, Debug, PartialEq, Eq)]
 pub struct Column {
     pub tag: u32,
     pub offset: usize,
@@ -99,15 +99,11 @@ pub fn column_at(table: &[u8], i: usize) -> Column
     }
 }
 
+#[tactic(auto, unfolding(crate::specs::Columns::reference))]
 fn is_reference(code: u32) -> bool
     ensures { result ≡ reference code }
 {
-    (code == 0x1F)
-        | (code == 0x1E)
-        | (code == 0x102)
-        | (code == 0x0D)
-        | (code == 0x48)
-        | (code / 4096 % 2 == 1)
+    matches!(code, 0x1F | 0x1E | 0x102 | 0x0D | 0x48) || code / 4096 % 2 == 1
 }
 
 // Whether the column's cells hold what names their values, and not the values themselves.
@@ -117,14 +113,14 @@ pub fn refers(column: Column) -> bool
     is_reference(column.tag % 65536)
 }
 
+#[tactic(auto, unfolding(crate::specs::Columns::width_fits))]
 fn width_fits(column: Column) -> bool
     ensures { result ≡ width_fits column }
 {
-    let width = column.width;
     if refers(column) {
-        return width == 4;
+        return column.width == 4;
     }
-    (width == 1) | (width == 2) | (width == 4) | (width == 8)
+    matches!(column.width, 1 | 2 | 4 | 8)
 }
 
 fn column_fits(table: &[u8], column: Column) -> bool
@@ -143,10 +139,8 @@ pub fn each_fits(table: &[u8]) -> bool
 {
     let count = column_count(table);
     let mut fits = true;
-    let mut i: usize = 0;
-    while i < count {
-        fits = fits & column_fits(table, column_at(table, i));
-        i += 1;
+    for i in 0..count {
+        fits &= column_fits(table, column_at(table, i));
     }
     fits
 }

@@ -7,19 +7,13 @@ ghost use Rattle.heap.specs.Shape.{map_offset, client_kind, user_root, item_coun
 ghost use Rattle.heap.specs.Items.{item_index, item_fits, Numbered, item_test, item_start, item_end, item_length, item_part, item_or, item_span};
 
 use refusal::{Fault, Refusal, Verdict};
+use std::ops::Range;
 
 // Where an item starts and how long it is.
-#[derive(Clone, Copy)]
-pub enum Span {
-    Within(usize, usize),
-    Refused(Refusal),
-}
-
-// Where an item starts, and where the next begins.
-#[derive(Clone, Copy)]
-struct Bounds {
-    start: usize,
-    end: usize,
+#[derive(Clone, Copy, Debug, PartialEq, Eq)]
+pub struct Span {
+    pub start: usize,
+    pub length: usize,
 }
 
 fn offset_in(block: &[u8], place: usize) -> usize
@@ -69,12 +63,10 @@ fn order_fits(block: &[u8]) -> bool
 {
     let count = item_count(block);
     let mut fits = true;
-    let mut i = 0;
-    while i < count {
+    for i in 0..count {
         let last = offset_at(block, i + 1);
         let next = offset_at(block, i + 2);
-        fits = fits & (last <= next);
-        i += 1;
+        fits &= last <= next;
     }
     fits
 }
@@ -154,25 +146,20 @@ pub fn item_fits(block: &[u8], item: u32) -> bool
 pub fn test_item(block: &[u8], item: u32) -> Verdict
     ensures { result ≡ item_test block.now item }
 {
-    let shape = test_heap(block);
-    let Ok(()) = shape else {
-        return shape;
-    };
+    test_heap(block)?;
     if !item_fits(block, item) {
         return refusal::refused_at(Fault::HeapItem, 0);
     }
     Ok(())
 }
 
-// Where an item of this heap starts, and where it ends.
-fn bounds_of(block: &[u8], item: u32) -> Bounds
+// The offsets at which an item of this heap starts, and at which the next begins.
+fn bounds_of(block: &[u8], item: u32) -> Range<usize>
     requires { Heap block.now × Numbered block.now item }
     ensures { (result.start ≡ item_start block.now item) × (result.end ≡ item_end block.now item) × (result.start ≤ result.end) × (result.end ≤ length block.now) }
 {
     let index = item_index(item);
-    let start = offset_at(block, index);
-    let end = offset_at(block, index + 1);
-    Bounds { start, end }
+    offset_at(block, index)..offset_at(block, index + 1)
 }
 
 // Where an item of this heap starts in the block.
@@ -180,8 +167,7 @@ pub fn item_start(block: &[u8], item: u32) -> usize
     requires { Heap block.now × Numbered block.now item }
     ensures { result ≡ item_start block.now item }
 {
-    let bounds = bounds_of(block, item);
-    bounds.start
+    bounds_of(block, item).start
 }
 
 // The item, between two offsets of the map, where the test has accepted it.
@@ -189,40 +175,34 @@ pub fn part_of<'a>(block: &'a [u8], item: u32) -> &'a [u8]
     requires { Heap block.now × Numbered block.now item }
     ensures { result.now ≡ item_part block.now item }
 {
-    let bounds = bounds_of(block, item);
-    let start = bounds.start;
-    let end = bounds.end;
-    &block[start..end]
+    &block[bounds_of(block, item)]
 }
 
 // The item as a part of the caller's block; the empty part for whatever the test refuses.
 pub fn item_of<'a>(block: &'a [u8], item: u32) -> &'a [u8]
     ensures { result.now ≡ item_or block.now item }
 {
-    let verdict = test_item(block, item);
-    let Ok(()) = verdict else {
-        return &block[0..0];
-    };
-    part_of(block, item)
+    match test_item(block, item) {
+        Ok(()) => part_of(block, item),
+        Err(_) => &block[0..0],
+    }
 }
 
 // Where the item starts and how long it is, for callers that cannot be handed a part.
 pub fn find_item(block: &[u8], item: u32) -> Result<Span, Refusal>
     ensures { result ≡ item_span block.now item }
 {
-    let verdict = test_item(block, item);
-    match verdict {
-        Err(refusal) => Err(refusal),
-        Ok(()) => span_of(block, item),
-    }
+    test_item(block, item)?;
+    Ok(span_of(block, item))
 }
 
-fn span_of(block: &[u8], item: u32) -> Result<Span, Refusal>
+fn span_of(block: &[u8], item: u32) -> Span
     requires { Heap block.now × Numbered block.now item }
-    ensures { result ≡ Ok (record { start = (item_start block.now item); length = (item_length block.now item) }) }
+    ensures { (result.start ≡ item_start block.now item) × (result.length ≡ item_length block.now item) }
 {
     let bounds = bounds_of(block, item);
-    let start = bounds.start;
-    let end = bounds.end;
-    Ok(Span { start: start, length: end - start })
+    Span {
+        start: bounds.start,
+        length: bounds.end - bounds.start,
+    }
 }

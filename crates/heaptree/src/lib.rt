@@ -2,7 +2,7 @@
 #![tactic(auto)]
 
 ghost use Rattle.std.specs.Prelude.{◌≡◌, ◌+◌, ◌/◌, ◌%◌, ◌≤◌, ◌<◌, eqb};
-ghost use Rattle.refusal.specs.Order.{◌at◌, in_order};
+ghost use Rattle.refusal.specs.Order.{in_order};
 ghost use Rattle.keys.specs.Records.{key_of, RecordsIn};
 ghost use Rattle.keys.specs.Search.{with_key};
 ghost use Rattle.search.specs.Answer.{answer};
@@ -16,7 +16,7 @@ ghost use Rattle.heaptree.specs.Branches.{record_count, records_fit, records_of,
 ghost use Rattle.heaptree.specs.Lookup.{from_root, Shows};
 ghost use Rattle.heaptree.specs.Steps.{held_in, ChosenIs};
 
-use keys::{End, Range, Seat, Shape, Sought};
+use keys::{Range, Shape, Sought};
 use refusal::{Fault, Refusal, Verdict};
 
 // What a tree on a heap is told by: how many bytes its keys and its entries have, and the fault of a wrong shape.
@@ -40,11 +40,9 @@ fn root_fits(tree: HeapTree, root: &[u8]) -> bool
     if root.len() != 8 {
         return false;
     }
-    let key = tree.key;
-    let entry = tree.entry;
     (le::byte_at(root, 0) == 0xB5)
-        & (le::byte_at(root, 1) as usize == key)
-        & (le::byte_at(root, 2) as usize == entry)
+        & (le::byte_at(root, 1) as usize == tree.key)
+        & (le::byte_at(root, 2) as usize == tree.entry)
         & (le::byte_at(root, 3) <= 3)
 }
 
@@ -56,9 +54,8 @@ pub fn check_root(block: &[u8], tree: HeapTree, root: u32) -> Verdict
     if !heap::item_fits(block, root) {
         return refusal::refused_at(Fault::HeapItem, 0);
     }
-    let fault = tree.fault;
     if !root_fits(tree, heap::part_of(block, root)) {
-        return refusal::refused_at(fault, 0);
+        return refusal::refused_at(tree.fault, 0);
     }
     Ok(())
 }
@@ -109,60 +106,53 @@ fn records_fit(bytes: &[u8], shape: Shape, count: usize, range: Range) -> bool
     requires { (0 < shape.size) × (shape.width ≤ shape.size) × (shape.width ≤ 8) × (count ≡ record_count shape bytes.now) }
     ensures { result ≡ records_fit shape range bytes.now }
 {
-    let size = shape.size;
     let order = keys::check_keys(bytes, shape, count, range);
-    (1 <= bytes.len()) & nothing_left(bytes.len(), size, count) & keys::is_climbing(order)
-}
-
-fn refused_held(fault: Fault) -> Result<usize, Refusal>
-    ensures { result ≡ Err (fault at 0) }
-{
-    Err(Refusal {
-        fault,
-        place: 0,
-        more: 0,
-    })
+    (1 <= bytes.len()) & nothing_left(bytes.len(), shape.size, count) & keys::is_climbing(order)
 }
 
 // An item of the tree: 19 for its number, then the tree's fault for its shape.
-fn check_branch(block: &[u8], tree: HeapTree, levels: usize, branch: Branch) -> Result<usize, Refusal>
+fn check_branch(
+    block: &[u8],
+    tree: HeapTree,
+    levels: usize,
+    branch: Branch,
+) -> Result<usize, Refusal>
     requires { Heap block.now × FairTree tree }
     ensures { result ≡ held_in tree block.now levels branch }
 {
-    let item = branch.item;
-    if !heap::item_fits(block, item) {
-        return refused_held(Fault::HeapItem);
+    if !heap::item_fits(block, branch.item) {
+        return refusal::refused_at(Fault::HeapItem, 0);
     }
-    let fault = tree.fault;
-    let range = branch.range;
-    let records = heap::part_of(block, item);
+    let records = heap::part_of(block, branch.item);
     let shape = shape_at(tree, levels);
-    let size = shape.size;
-    let count = whole_records(records.len(), size);
-    if !records_fit(records, shape, count, range) {
-        return refused_held(fault);
+    let count = whole_records(records.len(), shape.size);
+    if !records_fit(records, shape, count, branch.range) {
+        return refusal::refused_at(tree.fault, 0);
     }
     Ok(count)
 }
 
 // Where the leaf record with the key stands, in an accepted leaf item of so many records.
-fn find_in_leaf(block: &[u8], tree: HeapTree, key: u64, item: u32, count: usize) -> Result<Option<usize>, Refusal>
+fn find_in_leaf(
+    block: &[u8],
+    tree: HeapTree,
+    key: u64,
+    item: u32,
+    count: usize,
+) -> Result<Option<usize>, Refusal>
     requires { Heap block.now × Numbered block.now item × FairTree tree × (count ≡ record_count (leaf_shape tree) (item_part block.now item)) }
     ensures { Shows tree block.now result (answer (with_key (record_key tree) key (records_of (leaf_shape tree) (item_part block.now item))) 1) }
 {
     let records = heap::part_of(block, item);
-    let width = tree.key;
-    let size = width + tree.entry;
     let shape = Shape {
-        size,
-        width,
+        size: tree.key + tree.entry,
+        width: tree.key,
         reserved: false,
     };
-    let seat = keys::first_that(records, shape, count, Sought::Equal, key);
-    let Some(i) = seat else {
+    let Some(i) = keys::first_that(records, shape, count, Sought::Equal, key) else {
         return Ok(None);
     };
-    Ok(Some(heap::item_start(block, item) + i * size))
+    Ok(Some(heap::item_start(block, item) + i * shape.size))
 }
 
 // The child of the i-th of so many index records.
@@ -170,60 +160,60 @@ fn child_at(records: &[u8], shape: Shape, count: usize, i: usize, to: Option<u64
     requires { RecordsIn shape count records.now × (shape.width + 4 ≤ shape.size) × (i < count) }
     ensures { result ≡ child_at (key_of shape) (child_of shape.width) to shape count records.now i }
 {
-    let size = shape.size;
-    let width = shape.width;
-    let item = le::field4(records, i * size + width);
+    let item = le::field4(records, i * shape.size + shape.width);
     let range = keys::range_at(records, shape, count, i, to);
     Branch { item, range }
 }
 
 // The child of an accepted index item of so many records under which the key must stand.
-fn choose_child(block: &[u8], tree: HeapTree, key: u64, branch: Branch, count: usize) -> Option<Branch>
+fn choose_child(
+    block: &[u8],
+    tree: HeapTree,
+    key: u64,
+    branch: Branch,
+    count: usize,
+) -> Option<Branch>
     requires { Heap block.now × Numbered block.now branch.item × FairTree tree × (count ≡ record_count (index_shape tree) (item_part block.now branch.item)) }
     ensures { ChosenIs tree block.now key branch result }
 {
-    let item = branch.item;
-    let range = branch.range;
-    let to = range.to;
-    let records = heap::part_of(block, item);
-    let width = tree.key;
-    let size = width + 4;
+    let records = heap::part_of(block, branch.item);
     let shape = Shape {
-        size,
-        width,
+        size: tree.key + 4,
+        width: tree.key,
         reserved: false,
     };
-    let seat = keys::last_at_most(records, shape, count, key);
-    let Some(i) = seat else {
-        return None;
-    };
-    Some(child_at(records, shape, count, i, to))
+    let i = keys::last_at_most(records, shape, count, key)?;
+    Some(child_at(records, shape, count, i, branch.range.to))
 }
 
 // The descent from an item so many index levels above the leaves.
-fn find_under(block: &[u8], tree: HeapTree, key: u64, levels: usize, branch: Branch) -> Result<Option<usize>, Refusal>
+fn find_under(
+    block: &[u8],
+    tree: HeapTree,
+    key: u64,
+    levels: usize,
+    branch: Branch,
+) -> Result<Option<usize>, Refusal>
     requires { Heap block.now × FairTree tree }
     ensures { Shows tree block.now result (descend (tree_on tree block.now) Sought.Equal key levels branch) }
 {
-    let count = match check_branch(block, tree, levels, branch) {
-        Ok(count) => count,
-        Err(refusal) => {
-            return Err(refusal);
-        }
-    };
-    let item = branch.item;
+    let count = check_branch(block, tree, levels, branch)?;
     if levels == 0 {
-        return find_in_leaf(block, tree, key, item, count);
+        return find_in_leaf(block, tree, key, branch.item, count);
     }
-    let chosen = choose_child(block, tree, key, branch, count);
-    let Some(child) = chosen else {
+    let Some(child) = choose_child(block, tree, key, branch, count) else {
         return Ok(None);
     };
     find_under(block, tree, key, levels - 1, child)
 }
 
 // The leaf record with the key, of the tree that starts from an accepted root record.
-pub fn find_from(block: &[u8], tree: HeapTree, root: u32, key: u64) -> Result<Option<usize>, Refusal>
+pub fn find_from(
+    block: &[u8],
+    tree: HeapTree,
+    root: u32,
+    key: u64,
+) -> Result<Option<usize>, Refusal>
     requires { Heap block.now × FairTree tree × Rooted tree block.now root }
     ensures { Shows tree block.now result (from_root tree block.now root key) }
 {
@@ -233,9 +223,6 @@ pub fn find_from(block: &[u8], tree: HeapTree, root: u32, key: u64) -> Result<Op
         return Ok(None);
     }
     let levels = le::byte_at(record, 3) as usize;
-    let range = Range {
-        from: 0,
-        to: None,
-    };
+    let range = Range { from: 0, to: None };
     find_under(block, tree, key, levels, Branch { item, range })
 }

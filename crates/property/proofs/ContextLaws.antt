@@ -62,10 +62,6 @@ module _ (block : List ℕ) where
   context_refused_exactly r = refused_exactly (shape_rules block ++ context_rules block) r
 
   -- the whole lookup
-  pub property_refused : (id : ℕ) (r : Refusal) → context_test block ≡ Err r → property block id ≡ Err r
-  unfolding property
-  property_refused id r e = ends Err _ _ r e
-
   pub property_on : (id : ℕ) → context_test block ≡ Ok tt → property block id ≡ property_from block (from_root properties block (user_root block) id)
   unfolding property
   property_on id e = goes Err _ _ e

@@ -8,18 +8,16 @@ ghost use Rattle.heaptree.specs.Lookup.{from_root};
 ghost use Rattle.property.specs.Context.{properties, context_rules, context_test, Context};
 ghost use Rattle.property.specs.Lookup.{in_place, value_of, property_from, property};
 
-use heaptree::{FoundRecord, HeapTree};
+use heaptree::HeapTree;
 use refusal::{Fault, Refusal, Verdict};
 
 // A property's type, with its number in place, nothing, or the number of the item or subnode that holds its value.
-#[derive(Clone, Copy)]
+#[derive(Clone, Copy, Debug, PartialEq, Eq)]
 pub enum Property {
     Number(u16, u32),
     Empty(u16),
     Item(u16, u32),
     Subnode(u16, u32),
-    Absent,
-    Refused(Refusal),
 }
 
 // The property tree: its keys are ids, its entries a type and a value.
@@ -48,17 +46,15 @@ fn check_context(block: &[u8]) -> Verdict
 fn test_context(block: &[u8]) -> Verdict
     ensures { result ≡ context_test block.now }
 {
-    let shape = heap::test_heap(block);
-    let Ok(()) = shape else {
-        return shape;
-    };
+    heap::test_heap(block)?;
     check_context(block)
 }
 
+#[tactic(auto, unfolding(crate::specs::Lookup::in_place))]
 fn in_place(code: u16) -> bool
     ensures { result ≡ in_place code }
 {
-    (code == 2) | (code == 3) | (code == 4) | (code == 0xA) | (code == 0xB)
+    matches!(code, 2 | 3 | 4 | 0xA | 0xB)
 }
 
 // What a leaf record's type code and value say; 19 where the value names no item of the heap.
@@ -76,11 +72,7 @@ fn value_of(block: &[u8], code: u16, value: u32) -> Result<Option<Property>, Ref
         return Ok(Some(Property::Subnode(code, value)));
     }
     if !heap::item_fits(block, value) {
-        return Err(Refusal {
-            fault: Fault::HeapItem,
-            place: 0,
-            more: 0,
-        });
+        return refusal::refused_at(Fault::HeapItem, 0);
     }
     Ok(Some(Property::Item(code, value)))
 }
@@ -90,25 +82,19 @@ fn find_in_context(block: &[u8], id: u16) -> Result<Option<Property>, Refusal>
     requires { Heap block.now × Context block.now }
     ensures { result ≡ property_from block.now (from_root properties block.now (user_root block.now) id) }
 {
-    let found = heaptree::find_from(block, properties(), heap::user_root(block), id as u64);
-    match found {
-        Ok(Some(place)) => value_of(
-            block,
-            le::field2(block, place + 2),
-            le::field4(block, place + 4),
-        ),
-        Ok(None) => Ok(None),
-        Err(refusal) => Err(refusal),
-    }
+    let root = heap::user_root(block);
+    let Some(place) = heaptree::find_from(block, properties(), root, id as u64)? else {
+        return Ok(None);
+    };
+    let code = le::field2(block, place + 2);
+    let value = le::field4(block, place + 4);
+    value_of(block, code, value)
 }
 
 // The property with the id, of a block that need not be a heap.
 pub fn find_property(block: &[u8], id: u16) -> Result<Option<Property>, Refusal>
     ensures { result ≡ property block.now id }
 {
-    let verdict = test_context(block);
-    match verdict {
-        Err(refusal) => Err(refusal),
-        Ok(()) => find_in_context(block, id),
-    }
+    test_context(block)?;
+    find_in_context(block, id)
 }

@@ -11,9 +11,6 @@ returns-then-not-each_fits c =
     let t = c.args.table.now in
     sym (ap (λ (b : Bool). b && all_apart t (column_count t)) (fails _ _ c.each_fits.ensures c.if-not-each_fits.true))
 
-pub apart_quickly-requires : goal.apart_quickly-requires
-apart_quickly-requires c = (c.requires, holds _ _ c.each_fits.ensures c.if-not-each_fits.false)
-
 pub returns-then-apart_quickly : goal.returns-then-apart_quickly
 unfolding columns_fit
 returns-then-apart_quickly c =

@@ -1,12 +1,16 @@
-use mathlib.Core.Path.{sym, ◌∙◌}
-use Rattle.heap.proofs.ItemLaws.{item_exactly, item_taken, item_empty}
+use Rattle.std.proofs.Common.{rules, sym}
+use Rattle.heap.proofs.ItemLaws.{item_exactly}
+use Rattle.heap.specs.Items.{item_or}
+use Rattle.refusal.specs.Order.{after}
 use Rattle.heap.proofs.item_of.Goals as goal
 
-pub returns-in_default : goal.returns-in_default
-returns-in_default c = sym (item_empty _ _ _ (sym c.test_item-verdict.ensures ∙ c.in_default.is))
-
 pub part_of-requires : goal.part_of-requires
-part_of-requires c = (item_exactly _ _).0 (sym c.test_item-verdict.ensures ∙ c.in-Ok.is)
+part_of-requires c = (item_exactly _ _).0 (sym c.in-Ok.ensures)
 
-pub returns : goal.returns
-returns c = c.part_of.ensures ∙ sym (item_taken _ _ (sym c.test_item-verdict.ensures ∙ c.in-Ok.is))
+pub returns-in-Ok : goal.returns-in-Ok
+unfolding item_or after
+returns-in-Ok c = search rules
+
+pub returns-in-Err : goal.returns-in-Err
+unfolding item_or after
+returns-in-Err c = search rules

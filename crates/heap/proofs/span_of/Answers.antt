@@ -1,9 +1,9 @@
-use mathlib.Core.Path.{ap₂}
-use Prim.Native.Nat.{ℕ, ◌-◌}
+use Rattle.std.proofs.Common.{◌-◌, ap₂}
 use Rattle.heap.specs.Items.{item_length}
 use Rattle.heap.proofs.span_of.Goals as goal
-use Rattle.std.specs.Prelude.{Ok}
 
 pub returns : goal.returns
 unfolding item_length
-returns c = ap₂ (λ (start end : ℕ). Ok (record { start = start; length = (end - start) })) c.bounds_of-bounds.ensures.0 c.bounds_of-bounds.ensures.1
+returns c =
+    let bounds = c.bounds_of-bounds.ensures in
+    (bounds.0, ap₂ (λ start end. end - start) bounds.0 bounds.1)

@@ -1,6 +1,5 @@
 use mathlib.Core.Path.{sym, ◌∙◌}
 use native.Mathlib.Omega.{arith}
-use Prim.Native.Nat.{◌≤◌}
 use lib.ListN.{length}
 use Rattle.heap.specs.Shape.{map_end}
 use borrow.Author.Tests.{leb-true, leb-false}
@@ -33,20 +32,10 @@ returns-then-not-map_fits c =
     let a = c.args in
     c.refused_at-wrong.ensures ∙ sym (not_heap a.block.now (λ h. omega (arith, h.inside, leb-false (map_end a.block.now) (length a.block.now) (fails _ _ c.map_fits.ensures c.if-not-map_fits.true))))
 
-pub item_count-requires : goal.item_count-requires
-item_count-requires c =
-    let a = c.args in
-    let map : map_end a.block.now ≤ length a.block.now = leb-true _ _ (holds _ _ c.map_fits.ensures c.if-not-map_fits.false) in
-    (omega arith, omega arith)
-
 pub returns-then-item_count-gt2047 : goal.returns-then-item_count-gt2047
 returns-then-item_count-gt2047 c =
     let a = c.args in
     c.refused_at-wrong.ensures ∙ sym (not_heap a.block.now (λ h. omega (arith, h.few)))
-
-pub offsets_fit-requires : goal.offsets_fit-requires
-offsets_fit-requires c =
-    (omega arith, leb-true _ _ (holds _ _ c.map_fits.ensures c.if-not-map_fits.false))
 
 pub returns-then-not-offsets_fit : goal.returns-then-not-offsets_fit
 returns-then-not-offsets_fit c =

@@ -1,26 +1,19 @@
-use mathlib.Core.Path.{sym, ◌∙◌}
-use Rattle.laws.proofs.Tests.{fails, holds}
-use Rattle.refusal.proofs.OrderLaws.{passes, breaks}
+use Rattle.std.proofs.Common.{rules, sym}
 use Rattle.heap.proofs.ShapeLaws.{heap_exactly}
 use Rattle.heap.proofs.ItemLaws.{item_shape, item_number}
 use Rattle.heap.proofs.test_item.Goals as goal
+use Rattle.refusal.specs.Order.{demand}
 
-pub returns-in_default : goal.returns-in_default
-returns-in_default c =
-    let a = c.args in
-    c.test_heap-shape.ensures ∙ sym (item_shape a.block.now a.item _ (sym c.test_heap-shape.ensures ∙ c.in_default.is))
+pub returns-in_err-test_heap : goal.returns-in_err-test_heap
+returns-in_err-test_heap c = rw (item_shape c.args.block.now c.args.item _ (sym c.in_err-test_heap.ensures)) (search rules)
 
 pub item_fits-requires : goal.item_fits-requires
-item_fits-requires c = (heap_exactly _).0 (sym c.test_heap-shape.ensures ∙ c.in-Ok.is)
+item_fits-requires c = (heap_exactly _).0 (sym c.in_ok-test_heap.ensures)
 
 pub returns-then-not-item_fits : goal.returns-then-not-item_fits
-returns-then-not-item_fits c =
-    let a = c.args in
-    let shape = sym c.test_heap-shape.ensures ∙ c.in-Ok.is in
-    c.refused_at.ensures ∙ sym (item_number a.block.now a.item shape ∙ breaks _ _ (fails _ _ c.item_fits.ensures c.if-not-item_fits.true))
+unfolding demand
+returns-then-not-item_fits c = rw (item_number c.args.block.now c.args.item (sym c.in_ok-test_heap.ensures)) (search rules)
 
 pub returns : goal.returns
-returns c =
-    let a = c.args in
-    let shape = sym c.test_heap-shape.ensures ∙ c.in-Ok.is in
-    sym (item_number a.block.now a.item shape ∙ passes _ _ (holds _ _ c.item_fits.ensures c.if-not-item_fits.false))
+unfolding demand
+returns c = rw (item_number c.args.block.now c.args.item (sym c.in_ok-test_heap.ensures)) (search rules)

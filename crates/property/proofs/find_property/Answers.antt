@@ -1,12 +1,16 @@
-use mathlib.Core.Path.{sym, ◌∙◌}
-use Rattle.property.proofs.ContextLaws.{context_exactly, property_refused, property_on}
+use Rattle.std.proofs.Common.{sym, rules}
+use Rattle.refusal.specs.Order.{after}
+use Rattle.property.specs.Lookup.{property}
+use Rattle.property.proofs.ContextLaws.{context_exactly}
 use Rattle.property.proofs.find_property.Goals as goal
 
+pub returns-in_err-test_context : goal.returns-in_err-test_context
+unfolding property after
+returns-in_err-test_context c = search rules
+
 pub find_in_context-requires : goal.find_in_context-requires
-find_in_context-requires c = (context_exactly _).0 (sym c.test_context-verdict.ensures ∙ c.in-Ok.is)
+find_in_context-requires c = (context_exactly _).0 (sym c.in_ok-test_context.ensures)
 
-pub returns-in-Err : goal.returns-in-Err
-returns-in-Err c = sym (property_refused _ _ _ (sym c.test_context-verdict.ensures ∙ c.in-Err.is))
-
-pub returns-in-Ok : goal.returns-in-Ok
-returns-in-Ok c = c.find_in_context.ensures ∙ sym (property_on _ _ (sym c.test_context-verdict.ensures ∙ c.in-Ok.is))
+pub returns : goal.returns
+unfolding property after
+returns c = search rules
