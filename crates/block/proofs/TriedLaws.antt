@@ -11,7 +11,7 @@ use Rattle.keys.specs.declared.Sought.TheVariants.{Equal}
 use Rattle.search.specs.Answer.{Answer, found, absent, refused}
 use Rattle.search.proofs.Tried.{verdict_of}
 use Rattle.tree.specs.Lookup.{lookup, search_rules}
-use Rattle.tree.specs.Answers.{shown, as_block, block_of}
+use Rattle.tree.specs.Answers.{found_as, shown, as_block, block_of}
 use Rattle.tree.proofs.InOrder.{search_tried}
 use Rattle.edition.specs.declared.Edition.{Edition}
 use Rattle.block.specs.Block.{block_fits, tested_by, checked_block, size_in, test_of, fitting, read_in, read_of}
@@ -41,7 +41,7 @@ size_same (Err r) = refl
 
 module _ (E : Edition) (image : List ℕ) where
   found_tried : (a : Answer (List ℕ)) → (verdict_of a then in_order (listed_rules E image (as_block (shown E.blocks a)))) ≡ verdict_in (tested_by (block_fits E.trailer image) (as_block (shown E.blocks a)))
-  unfolding verdict_of verdict_in shown as_block tested_by listed_rules block_fits after in_order demand
+  unfolding verdict_of verdict_in shown found_as tested_by listed_rules block_fits after in_order demand
   found_tried (found e n) = after_verdict (block_fits E.trailer image _) (Ok _) refl
   found_tried (absent n) = refl
   found_tried (refused r) = refl

@@ -124,7 +124,7 @@ pub fn check_block(image: &[u8], e: Edition, block: u64) -> Result<Listed, Refus
     requires { FairEdition e }
     ensures { result ≡ checked_block e image.now block }
 {
-    test_found(image, e.trailer, tree::find_block(image, e.blocks, block))
+    test_found(image, e.trailer, tree::find(image, e.blocks, block))
 }
 
 // The same in an image whose header is accepted.
@@ -135,7 +135,7 @@ pub fn check_block_in(image: &[u8], e: Edition, block: u64) -> Result<Listed, Re
     test_found(
         image,
         e.trailer,
-        tree::find_block_in(image, e.blocks, block),
+        tree::find_in(image, e.blocks, block),
     )
 }
 
@@ -147,7 +147,7 @@ pub fn check_block_at(image: &[u8], e: Edition, way: Way, block: u64) -> Result<
     test_found(
         image,
         e.trailer,
-        tree::block_at(image, e.blocks, way, block),
+        tree::at(image, e.blocks, way, block),
     )
 }
 

@@ -15,7 +15,7 @@ use Rattle.keys.specs.Search.{joined}
 use Rattle.search.specs.Answer as search
 use Rattle.search.proofs.Tried.{verdict_of}
 use Rattle.tree.specs.Lookup.{lookup, search_rules}
-use Rattle.tree.specs.Answers.{shown, as_node, node_of}
+use Rattle.tree.specs.Answers.{found_as, shown, as_node, node_of}
 use Rattle.tree.proofs.InOrder.{search_tried}
 use Rattle.block.specs.Block.{checked_block, internal, block_bytes}
 use Rattle.block.specs.Tried.{test_rules}
@@ -110,7 +110,7 @@ module _ (E : Edition) (image : List ℕ) where
           ∙ passed_tried (checked_block E image number)
 
   found_tried : (a : search.Answer (List ℕ)) → (verdict_of a then in_order (found_rules E image (as_node (shown E.nodes a)))) ≡ content_verdict (found_content E image (as_node (shown E.nodes a)))
-  unfolding verdict_of shown as_node found_rules found_content content_verdict after in_order
+  unfolding verdict_of shown found_as found_rules found_content content_verdict after in_order
   found_tried (search.found e n) = block_tried _
   found_tried (search.absent n) = refl
   found_tried (search.refused r) = refl

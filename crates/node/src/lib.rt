@@ -16,7 +16,7 @@ ghost use Rattle.node.specs.Steps.{measured_in, IsListed, AllListed, bytes_at};
 
 use edition::{Edition, RootBlock};
 use refusal::{Fault, Refusal};
-use tree::{Found, Listed, Way};
+use tree::{Found, Listed, Node, Way};
 
 // The i-th number in a data tree's root block.
 fn number_at(root: &[u8], d: RootBlock, i: usize) -> u64
@@ -86,7 +86,7 @@ fn listed_at(image: &[u8], e: Edition, way: Way, number: u64) -> Listed
     requires { FairEdition e × IsListed e image.now number × FromRoot e.blocks image.now way × (at_end e.blocks image.now way (compared e.blocks number) ≡ lookup e.blocks image.now number) }
     ensures { checked_block e image.now number ≡ Ok result }
 {
-    let Ok(found) = tree::block_at(image, e.blocks, way, number) else {
+    let Ok(found) = tree::at(image, e.blocks, way, number) else {
         unreachable!();
     };
     let Found::Entry(b, _) = found else {
@@ -193,7 +193,7 @@ pub fn read_node(
     ensures answer { result ≡ answer_to (node_content e image.now node) (length out.old) }
     ensures buffer { out.new ≡ filled_by (node_content e image.now node) out.old }
 {
-    let Found::Entry(listed, _) = tree::find_node(image, e.nodes, node)? else {
+    let Found::Entry(listed, _) = tree::find::<Node>(image, e.nodes, node)? else {
         return Ok(None);
     };
     read_data(image, e, listed.block, out)

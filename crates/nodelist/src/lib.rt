@@ -34,7 +34,7 @@ fn fill(image: &[u8], l: Layout, nodes: &[u64], places: &mut [u64])
     let mut way = Ok(Found::Absent(0));
     for (i, node) in nodes.iter().enumerate() {
         way = tree::way_to(image, l, start, way, *node);
-        let words = words_of(tree::node_at(image, l, way, *node));
+        let words = words_of(tree::at(image, l, way, *node));
         places[9 * i..9 * i + 9].copy_from_slice(&words);
     }
 }

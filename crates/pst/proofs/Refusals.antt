@@ -10,7 +10,7 @@ use Rattle.search.specs.Answer.{Answer, found, absent, refused}
 use Rattle.search.proofs.Tried.{verdict_of}
 use Rattle.header.specs.declared.Header.{Header}
 use Rattle.edition.specs.declared.Layout.{Layout}
-use Rattle.tree.specs.Answers.{shown, as_node, as_block}
+use Rattle.tree.specs.Answers.{found_as, shown, as_node, as_block}
 use Rattle.block.proofs.TriedLaws.{sized_verdict}
 use Rattle.node.proofs.TriedLaws.{read_verdict}
 use Rattle.property.specs.declared.Property.TheVariants as property
@@ -85,7 +85,7 @@ node_back (Ok (Absent pages)) r e = cc
 node_back (Err s) r e = cc
 
 node_verdict : (L : Layout) (a : Answer (List ℕ)) → verdict_of a ≡ node_verdict_lem (as_node (shown L a))
-unfolding verdict_of node_verdict_lem as_node shown
+unfolding verdict_of node_verdict_lem found_as shown
 node_verdict L (found e n) = refl
 node_verdict L (absent n) = refl
 node_verdict L (refused r) = refl
@@ -107,7 +107,7 @@ block_back (Ok (Absent pages)) r e = cc
 block_back (Err s) r e = cc
 
 block_verdict : (L : Layout) (a : Answer (List ℕ)) → verdict_of a ≡ block_verdict_lem (as_block (shown L a))
-unfolding verdict_of block_verdict_lem as_block shown
+unfolding verdict_of block_verdict_lem found_as shown
 block_verdict L (found e n) = refl
 block_verdict L (absent n) = refl
 block_verdict L (refused r) = refl

@@ -23,7 +23,7 @@ use Rattle.header.proofs.EditionLaws.{fair_nodes, fair_blocks}
 use Rattle.header.proofs.HeaderLaws.{edition_agrees}
 use Rattle.tree.specs.Tree.{tree_fits, scan}
 use Rattle.tree.specs.Lookup.{lookup, next, path}
-use Rattle.tree.specs.Answers.{column_of, fields_of, shown, as_node, as_block, node_of, block_of, next_node_of, next_block_of}
+use Rattle.tree.specs.Answers.{found_as, column_of, fields_of, shown, as_node, as_block, node_of, block_of, next_node_of, next_block_of}
 use Rattle.tree.proofs.Demand3.{demand3}
 use Rattle.tree.proofs.InOrder.{path_counted, in_order_lem}
 use Rattle.tree.proofs.OffPath.{off_path, off_read}
@@ -53,11 +53,11 @@ record Plain (says : Answer (List ℕ) → Meaning) : Type 0 where
   of_refused : (r : Refusal) → case_in (says (refused r)) ≡ 2
 
 node_plain : (L : Layout) → Plain (node_says L)
-unfolding case_in count_in refuses node_means refusal_means as_node shown
+unfolding case_in count_in refuses node_means refusal_means found_as shown
 node_plain L = record { of_found = λ e n. (refl, refl, refl); of_absent = λ n. refl; of_refused = λ r. refl }
 
 block_plain : (L : Layout) → Plain (block_says L)
-unfolding case_in count_in refuses block_means refusal_means as_block shown
+unfolding case_in count_in refuses block_means refusal_means found_as shown
 block_plain L = record { of_found = λ e n. (refl, refl, refl); of_absent = λ n. refl; of_refused = λ r. refl }
 
 module _ (says : Answer (List ℕ) → Meaning) (plain : Plain says) where
@@ -174,13 +174,13 @@ unfolding number_in
 first_column L fair entry = ap (λ (place : ℕ). field entry place L.first.width) fair.front.0 ∙ ap (field entry 0) fair.front.1
 
 node_handed : (L : Layout) → FairLayout L → (entry : List ℕ) (pages : ℕ) → FirstValue (number_in L entry) (node_says L (found entry pages))
-unfolding node_means as_node shown fields_of
+unfolding node_means found_as shown fields_of
 node_handed L fair entry pages =
     let others = column_of entry L.second ∷ column_of entry L.third ∷ column_of entry L.fourth ∷ pages ∷ [] in
     record { others = others; is = ap (λ (n : ℕ). answered (n ∷ others)) (first_column L fair entry) }
 
 block_handed : (L : Layout) → FairLayout L → (entry : List ℕ) (pages : ℕ) → FirstValue (number_in L entry) (block_says L (found entry pages))
-unfolding block_means as_block shown fields_of
+unfolding block_means found_as shown fields_of
 block_handed L fair entry pages =
     let others = column_of entry L.second ∷ column_of entry L.third ∷ column_of entry L.fourth ∷ pages ∷ [] in
     record { others = others; is = ap (λ (n : ℕ). answered (n ∷ others)) (first_column L fair entry) }

@@ -39,7 +39,7 @@ pub fn check_blocks(image: &[u8]) -> Verdict
 pub fn find_node(image: &[u8], node: u64) -> Result<Found<Node>, Refusal>
     ensures { node_means result ≡ node_outcome image.now node }
 {
-    tree::find_node(image, header::nodes_of(image), node)
+    tree::find(image, header::nodes_of(image), node)
 }
 
 // A list of at most 4,096 nodes, each as by `find_node`; of each answer the nine words go into its place.
@@ -54,21 +54,21 @@ pub fn find_nodes(image: &[u8], nodes: &[u64], places: &mut [u64]) -> Verdict
 pub fn find_block(image: &[u8], block: u64) -> Result<Found<Listed>, Refusal>
     ensures { block_means result ≡ block_outcome image.now block }
 {
-    tree::find_block(image, header::blocks_of(image), block)
+    tree::find(image, header::blocks_of(image), block)
 }
 
 // The first node whose number is at least `from`, by the low four bytes of both.
 pub fn next_node(image: &[u8], from: u64) -> Result<Found<Node>, Refusal>
     ensures { node_means result ≡ next_node_outcome image.now from }
 {
-    tree::next_node(image, header::nodes_of(image), from)
+    tree::next(image, header::nodes_of(image), from)
 }
 
 // The first block whose number, with bit 0 cleared, is at least `from` as given.
 pub fn next_block(image: &[u8], from: u64) -> Result<Found<Listed>, Refusal>
     ensures { block_means result ≡ next_block_outcome image.now from }
 {
-    tree::next_block(image, header::blocks_of(image), from)
+    tree::next(image, header::blocks_of(image), from)
 }
 
 // A block's size, after its tests.

@@ -25,7 +25,7 @@ use Rattle.page.proofs.PageLaws.{page_ends}
 use Rattle.tree.specs.declared.Node.{Node}
 use Rattle.tree.specs.Tree.{root, root_level, page_tree}
 use Rattle.tree.specs.Lookup.{asked_for, searched}
-use Rattle.tree.specs.Answers.{fields_of, shown, as_node, node_of, next_of}
+use Rattle.tree.specs.Answers.{found_as, fields_of, shown, as_node, node_of, next_of}
 use Rattle.tree.proofs.Walk.{accepted_level, test_is, born_level}
 use Rattle.std.specs.Prelude.{Some, None, Ok, Err, Option}
 use Rattle.refusal.specs.Order.{Verdict}
@@ -116,7 +116,7 @@ chosen_level L image k l p c e ok =
 
 -- a node is found only where the header is accepted
 pub node_header : (L : Layout) (image : List ℕ) (key : ℕ) (d : Node) (n : ℕ) → node_of L image key ≡ Ok (Entry d n) → header_fits image ≡ Ok tt
-unfolding node_of searched as_node shown
+unfolding node_of searched found_as shown
 node_header L image key d n e = by (header_fits image) refl
   where
     by : (v : Verdict) → header_fits image ≡ v → v ≡ Ok tt

@@ -22,7 +22,7 @@ use Rattle.page.specs.Layout.{compared}
 use Rattle.page.specs.Page.{page, level_of, page_fits}
 use Rattle.tree.specs.Tree.{root, root_level, page_tree}
 use Rattle.tree.specs.Lookup.{searched, lookup}
-use Rattle.tree.specs.Answers.{shown, as_node, node_of}
+use Rattle.tree.specs.Answers.{found_as, shown, as_node, node_of}
 use Rattle.tree.specs.Ways.{start_fits, at_end, Leading, FromRoot, leads_to}
 use Rattle.tree.proofs.Walk.{test_is}
 use Rattle.tree.proofs.Searched.{sorted}
@@ -142,5 +142,5 @@ module _ (L : Layout) (image : List ℕ) where
 
 -- the same of a node
 pub node_refused : (L : Layout) (image : List ℕ) (key : ℕ) (r : Refusal) → start_fits L image ≡ Err r → Err r ≡ node_of L image key
-unfolding node_of shown as_node
+unfolding node_of shown found_as
 node_refused L image key r q = ap (λ a. as_node (shown L a)) (lookup_refused L image key r q)

@@ -39,19 +39,28 @@ shown L (found e n) = Ok (Entry (fields_of L e) n)
 shown L (absent n) = Ok (Absent n)
 shown L (refused r) = Err r
 
+-- what is found, with its entry's numbers taken as something else
+unfoldable pub found_as : {T : Type 0} → (Fields → T) → Result (Found Fields) Refusal → Result (Found T) Refusal
+found_as of (Ok (Entry f n)) = Ok (Entry (of f) n)
+found_as of (Ok (Absent n)) = Ok (Absent n)
+found_as of (Err r) = Err r
+
+-- as a node, and as a block
+abbrev pub node_in : Fields → Node
+node_in f = record { node = f.first; block = f.second; subnode = f.third; parent = f.fourth }
+
+abbrev pub listed_in : Fields → Listed
+listed_in f = record { block = f.first; offset = f.second; size = f.third; references = f.fourth }
+
 -- the outcome of a node lookup, and of a block lookup, by the layout of either tree in some edition
-unfoldable pub as_node : Result (Found Fields) Refusal → Result (Found Node) Refusal
-as_node (Ok (Entry f n)) = Ok (Entry (record { node = f.first; block = f.second; subnode = f.third; parent = f.fourth }) n)
-as_node (Ok (Absent n)) = Ok (Absent n)
-as_node (Err r) = Err r
+abbrev pub as_node : Result (Found Fields) Refusal → Result (Found Node) Refusal
+as_node r = found_as node_in r
 
 unfoldable pub node_of : Layout → List ℕ → ℕ → Result (Found Node) Refusal
 node_of L image key = as_node (shown L (lookup L image key))
 
-unfoldable pub as_block : Result (Found Fields) Refusal → Result (Found Listed) Refusal
-as_block (Ok (Entry f n)) = Ok (Entry (record { block = f.first; offset = f.second; size = f.third; references = f.fourth }) n)
-as_block (Ok (Absent n)) = Ok (Absent n)
-as_block (Err r) = Err r
+abbrev pub as_block : Result (Found Fields) Refusal → Result (Found Listed) Refusal
+as_block r = found_as listed_in r
 
 unfoldable pub block_of : Layout → List ℕ → ℕ → Result (Found Listed) Refusal
 block_of L image key = as_block (shown L (lookup L image key))

@@ -16,7 +16,7 @@ ghost use Rattle.page.specs.Page.{page, count_of, level_of, entries, key_in, off
 ghost use Rattle.tree.specs.Tree.{root, link_of, page_tree, tree_fits};
 ghost use Rattle.tree.specs.Lookup.{lookup, next};
 ghost use Rattle.tree.specs.Ways.{start_fits, at_end, Leading, FromRoot, leads_to};
-ghost use Rattle.tree.specs.Answers.{column_of, fields_of, shown, as_node, node_of, as_block, block_of, next_node_of, next_block_of, kids_from, chosen_of, next_of, LevelIs};
+ghost use Rattle.tree.specs.Answers.{column_of, fields_of, shown, found_as, node_in, listed_in, kids_from, chosen_of, next_of, LevelIs};
 
 use edition::{Column, Layout};
 use keys::{Range, Shape, Sought};
@@ -412,118 +412,85 @@ pub fn way_to(image: &[u8], l: Layout, start: Verdict, last: Way, key: u64) -> W
     way_from(image, l, level, p, sought, 0)
 }
 
-// The lookup of a key in an image whose header is accepted.
-fn find_in(image: &[u8], l: Layout, key: u64) -> Result<Found<Fields>, Refusal>
+// What a leaf entry lists, told by its numbers.
+pub trait TreeEntry {
+    ghost use Rattle.tree.specs.declared.Fields.{Fields};
+
+    ghost of: { Fields → Self };
+
+    fn of(fields: Fields) -> Self
+        ensures { result ≡ of fields };
+}
+
+impl TreeEntry for Node {
+    ghost of = { node_in };
+
+    fn of(fields: Fields) -> Node {
+        Node {
+            node: fields.first,
+            block: fields.second,
+            subnode: fields.third,
+            parent: fields.fourth,
+        }
+    }
+}
+
+impl TreeEntry for Listed {
+    ghost of = { listed_in };
+
+    fn of(fields: Fields) -> Listed {
+        Listed {
+            block: fields.first,
+            offset: fields.second,
+            size: fields.third,
+            references: fields.fourth,
+        }
+    }
+}
+
+fn found_as<T: TreeEntry>(found: Result<Found<Fields>, Refusal>) -> Result<Found<T>, Refusal>
+    ensures { result ≡ found_as T.of found }
+{
+    match found? {
+        Found::Entry(fields, pages) => Ok(Found::Entry(T::of(fields), pages)),
+        Found::Absent(pages) => Ok(Found::Absent(pages)),
+    }
+}
+
+// What is listed under a key, at the end of the key's way.
+pub fn at<T: TreeEntry>(image: &[u8], l: Layout, way: Way, key: u64) -> Result<Found<T>, Refusal>
+    requires { FairLayout l × FromRoot l image.now way × (at_end l image.now way (compared l key) ≡ lookup l image.now key) }
+    ensures { result ≡ found_as T.of (shown l (lookup l image.now key)) }
+{
+    found_as(end_of(image, l, way, page::compared(l, key)))
+}
+
+// The lookup of a key in an image whose header is accepted, for a call that looks up many.
+pub fn find_in<T: TreeEntry>(image: &[u8], l: Layout, key: u64) -> Result<Found<T>, Refusal>
     requires { FairLayout l × (header_fits image.now ≡ Ok tt) }
-    ensures { result ≡ shown l (lookup l image.now key) }
+    ensures { result ≡ found_as T.of (shown l (lookup l image.now key)) }
 {
     let start = check_root(image, l);
     let way = way_to(image, l, start, Ok(Found::Absent(0)), key);
-    end_of(image, l, way, page::compared(l, key))
+    at(image, l, way, key)
 }
 
 // The lookup of a key.
-fn find(image: &[u8], l: Layout, key: u64) -> Result<Found<Fields>, Refusal>
+pub fn find<T: TreeEntry>(image: &[u8], l: Layout, key: u64) -> Result<Found<T>, Refusal>
     requires { FairLayout l }
-    ensures { result ≡ shown l (lookup l image.now key) }
+    ensures { result ≡ found_as T.of (shown l (lookup l image.now key)) }
 {
     header::check_header(image)?;
     find_in(image, l, key)
 }
 
 // The first entry from a key on.
-fn find_next(image: &[u8], l: Layout, from: u64) -> Result<Found<Fields>, Refusal>
+pub fn next<T: TreeEntry>(image: &[u8], l: Layout, from: u64) -> Result<Found<T>, Refusal>
     requires { FairLayout l }
-    ensures { result ≡ shown l (next l image.now from) }
+    ensures { result ≡ found_as T.of (shown l (next l image.now from)) }
 {
     header::check_header(image)?;
     let p = root_link(image, l);
     let level = stated_level(image, l, p.offset);
-    seek(image, l, level, p, page::as_given(l, from), 0)
-}
-
-fn as_node(found: Result<Found<Fields>, Refusal>) -> Result<Found<Node>, Refusal>
-    ensures { result ≡ as_node found }
-{
-    match found? {
-        Found::Entry(fields, pages) => Ok(Found::Entry(
-            Node {
-                node: fields.first,
-                block: fields.second,
-                subnode: fields.third,
-                parent: fields.fourth,
-            },
-            pages,
-        )),
-        Found::Absent(pages) => Ok(Found::Absent(pages)),
-    }
-}
-
-pub fn find_node(image: &[u8], l: Layout, node: u64) -> Result<Found<Node>, Refusal>
-    requires { FairLayout l }
-    ensures { result ≡ node_of l image.now node }
-{
-    as_node(find(image, l, node))
-}
-
-pub fn next_node(image: &[u8], l: Layout, from: u64) -> Result<Found<Node>, Refusal>
-    requires { FairLayout l }
-    ensures { result ≡ next_node_of l image.now from }
-{
-    as_node(find_next(image, l, from))
-}
-
-// The node at the end of its way.
-pub fn node_at(image: &[u8], l: Layout, way: Way, node: u64) -> Result<Found<Node>, Refusal>
-    requires { FairLayout l × FromRoot l image.now way × (at_end l image.now way (compared l node) ≡ lookup l image.now node) }
-    ensures { result ≡ node_of l image.now node }
-{
-    as_node(end_of(image, l, way, page::compared(l, node)))
-}
-
-fn as_block(found: Result<Found<Fields>, Refusal>) -> Result<Found<Listed>, Refusal>
-    ensures { result ≡ as_block found }
-{
-    match found? {
-        Found::Entry(fields, pages) => Ok(Found::Entry(
-            Listed {
-                block: fields.first,
-                offset: fields.second,
-                size: fields.third,
-                references: fields.fourth,
-            },
-            pages,
-        )),
-        Found::Absent(pages) => Ok(Found::Absent(pages)),
-    }
-}
-
-pub fn find_block(image: &[u8], l: Layout, block: u64) -> Result<Found<Listed>, Refusal>
-    requires { FairLayout l }
-    ensures { result ≡ block_of l image.now block }
-{
-    as_block(find(image, l, block))
-}
-
-// The same in an image whose header is accepted, for a call that looks up many blocks.
-pub fn find_block_in(image: &[u8], l: Layout, block: u64) -> Result<Found<Listed>, Refusal>
-    requires { FairLayout l × (header_fits image.now ≡ Ok tt) }
-    ensures { result ≡ block_of l image.now block }
-{
-    as_block(find_in(image, l, block))
-}
-
-// The block at the end of its way.
-pub fn block_at(image: &[u8], l: Layout, way: Way, block: u64) -> Result<Found<Listed>, Refusal>
-    requires { FairLayout l × FromRoot l image.now way × (at_end l image.now way (compared l block) ≡ lookup l image.now block) }
-    ensures { result ≡ block_of l image.now block }
-{
-    as_block(end_of(image, l, way, page::compared(l, block)))
-}
-
-pub fn next_block(image: &[u8], l: Layout, from: u64) -> Result<Found<Listed>, Refusal>
-    requires { FairLayout l }
-    ensures { result ≡ next_block_of l image.now from }
-{
-    as_block(find_next(image, l, from))
+    found_as(seek(image, l, level, p, page::as_given(l, from), 0))
 }
