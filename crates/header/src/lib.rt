@@ -12,13 +12,13 @@ use edition::{Edition, HeaderPlaces, Layout};
 use refusal::{Fault, Refusal, Verdict};
 
 // A page as the header refers to it.
-#[derive(Clone, Copy)]
+#[derive(Clone, Copy, Debug, PartialEq, Eq)]
 pub struct Reference {
     pub number: u64,
     pub offset: u64,
 }
 
-#[derive(Clone, Copy)]
+#[derive(Clone, Copy, Debug, PartialEq, Eq)]
 pub struct Header {
     pub method: u8,
     pub nodes: Reference,

@@ -13,7 +13,7 @@ use keys::{Disorder, Range, Shape};
 use refusal::{Fault, Verdict};
 
 // The level that a page must have.
-#[derive(Clone, Copy)]
+#[derive(Clone, Copy, Debug, PartialEq, Eq)]
 pub enum Level {
     AtRoot,
     Exactly(usize),

@@ -24,7 +24,7 @@ use page::{Level, Link};
 use refusal::{Refusal, Verdict};
 
 // A leaf entry's numbers, without its padding.
-#[derive(Clone, Copy)]
+#[derive(Clone, Copy, Debug, PartialEq, Eq)]
 pub struct Fields {
     pub first: u64,
     pub second: u64,
@@ -33,7 +33,7 @@ pub struct Fields {
 }
 
 // An entry that was found, or that there is none; and beside either the count of pages read.
-#[derive(Clone, Copy)]
+#[derive(Clone, Copy, Debug, PartialEq, Eq)]
 pub enum Found<T> {
     Entry(T, u64),
     Absent(u64),
@@ -43,7 +43,7 @@ pub enum Found<T> {
 pub type Way = Result<Found<Link>, Refusal>;
 
 // A node as its tree lists it: its number, data block, subnode block and parent.
-#[derive(Clone, Copy)]
+#[derive(Clone, Copy, Debug, PartialEq, Eq)]
 pub struct Node {
     pub node: u64,
     pub block: u64,
@@ -52,7 +52,7 @@ pub struct Node {
 }
 
 // A block as its tree lists it.
-#[derive(Clone, Copy)]
+#[derive(Clone, Copy, Debug, PartialEq, Eq)]
 pub struct Listed {
     pub block: u64,
     pub offset: u64,

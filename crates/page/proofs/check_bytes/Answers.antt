@@ -25,9 +25,6 @@ unfolding bytes_rules
 returns-then-not-counts_fit c =
     c.refused_at-then-not-counts_fit.ensures ∙ sym ((refused_exactly _ _).1 (later (holds _ _ c.kind_fits.ensures c.if-not-kind_fits.false) (later (holds _ _ c.number_fits.ensures c.if-not-number_fits.false) (later (holds _ _ c.checksum_fits.ensures c.if-not-checksum_fits.false) (here (fails _ _ c.counts_fit.ensures c.if-not-counts_fit.true))))))
 
-pub check_keys-requires : goal.check_keys-requires
-check_keys-requires c = (c.requires.0, c.requires.1, holds _ _ c.counts_fit.ensures c.if-not-counts_fit.false)
-
 pub returns : goal.returns
 unfolding bytes_rules
 returns c =

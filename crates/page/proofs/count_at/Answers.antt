@@ -3,9 +3,6 @@ use native.Mathlib.Omega.{arith}
 use Rattle.le.specs.Bytes.{byte}
 use Rattle.page.proofs.count_at.Goals as goal
 
-pub overflow_cast-result : goal.overflow_cast-result
-overflow_cast-result c = omega (arith, c.type_inv.page c.args.place)
-
 pub returns : goal.returns
 unfolding byte
 returns c = (refl, omega (arith, c.type_inv.page c.args.place))
