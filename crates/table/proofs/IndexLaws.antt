@@ -19,7 +19,7 @@ use Rattle.table.specs.Context.{table_record, table_rules, table_test, TableSoun
 use Rattle.table.specs.Says.{table_in, table_of, column_in, column_of}
 use Rattle.table.specs.RowIndex.{FairIndex, row_from, index_root, index_test, row_of}
 use Rattle.table.proofs.ContextLaws.{table_exactly}
-use Rattle.std.specs.Prelude.{Some, Ok, Err}
+use Rattle.std.specs.Prelude.{Option, Some, Result, Ok, Err}
 
 module _ (block : List ℕ) where
   pub table_refused : (r : Refusal) → table_test block ≡ Err r → table_of block ≡ Err r
@@ -34,7 +34,7 @@ module _ (block : List ℕ) where
   unfolding column_of
   column_refused index r e = ends Err _ _ r e
 
-  pub column_on : (index : ℕ) → table_test block ≡ Ok tt → column_of block index ≡ column_in (table_record block) index
+  pub column_on : (index : ℕ) → table_test block ≡ Ok tt → column_of block index ≡ Ok (column_in (table_record block) index)
   unfolding column_of
   column_on index e = goes Err _ _ e
 
@@ -64,14 +64,10 @@ module _ (tree : HeapTree) (block : List ℕ) where
     (λ h. right_table ((table_exactly block).1 h.0) ∙ (root_exactly tree block (index_root block)).1 h.1),
   )
 
-  pub row_refused : (id : ℕ) (r : Refusal) → index_test tree block ≡ Err r → row_of tree block id ≡ Err r
-  unfolding row_of
-  row_refused id r e = ends Err _ _ r e
-
   pub row_on : (id : ℕ) → index_test tree block ≡ Ok tt → row_of tree block id ≡ row_from tree (from_root tree block (index_root block) id)
   unfolding row_of
   row_on id e = goes Err _ _ e
 
   -- the row number in the leaf record at a place
-  pub row_at_lem : (place : ℕ) → Ok (Some (field block (place + tree.key) tree.entry)) ≡ Ok (Some (field (part block place (tree.key + tree.entry)) tree.key tree.entry))
+  pub row_at_lem : (place : ℕ) → ◌≡◌ {A = Result (Option ℕ) Refusal} (Ok (Some (field block (place + tree.key) tree.entry))) (Ok (Some (field (part block place (tree.key + tree.entry)) tree.key tree.entry)))
   row_at_lem place = ap (λ n. Ok (Some n)) (sym (field_part block place (tree.key + tree.entry) tree.key tree.entry (omega arith)))
