@@ -1,14 +1,14 @@
 // The rows of a table and their cells.
 #![tactic(auto)]
 
-ghost use Rattle.std.specs.Prelude.{◌≡◌, ◌+◌, ◌<◌, length};
+ghost use Rattle.std.specs.Prelude.{◌≡◌, ◌<◌, length};
 ghost use Rattle.refusal.specs.Order.{in_order};
 ghost use Rattle.heap.specs.Shape.{Heap};
 ghost use Rattle.columns.specs.Record.{row_size_of};
 ghost use Rattle.columns.specs.Sound.{RecordSound, ColumnSound};
 ghost use Rattle.table.specs.Context.{table_record, TableSound};
 ghost use Rattle.cells.specs.Rows.{held_rules, Held, rows_named, row_bytes, rows_test, row_count, row_at, count_of};
-ghost use Rattle.cells.specs.Cells.{exists, named_cell, stored, cell_at, cell_in, cell_of};
+ghost use Rattle.cells.specs.Cells.{exists, named_cell, cell_at, cell_in, cell_of};
 
 use columns::Column;
 use refusal::{Fault, Refusal, Verdict};

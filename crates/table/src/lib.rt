@@ -1,7 +1,7 @@
 // A table on a heap: its record, its columns and its row index.
 #![tactic(auto)]
 
-ghost use Rattle.std.specs.Prelude.{◌≡◌, ◌<◌};
+ghost use Rattle.std.specs.Prelude.{◌≡◌};
 ghost use Rattle.refusal.specs.Order.{in_order};
 ghost use Rattle.heap.specs.Shape.{Heap};
 ghost use Rattle.heaptree.specs.Lookup.{from_root};
