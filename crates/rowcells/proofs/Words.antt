@@ -1,16 +1,14 @@
--- The six words of a place. Assumes nothing.
+-- The six words of a place, and where they come to stand. Assumes nothing.
 use Prim.Native.Nat.{ℕ, zero, suc}
 use mathlib.Core.Path.{◌≡◌, refl, sym, ap, ap₂, ◌∙◌}
 use mathlib.Core.Bool.{cond}
-use mathlib.Core.List.{List}
+use mathlib.Core.List.{List, ◌++◌, append_assoc}
 use lib.Dec.{eqb}
-use lib.ListN.{length, get_or, drop}
+use lib.ListN.{length, get_or, take, drop, length-append}
 use lib.Seq.{take_at, drop_at, drop-drop}
-use lib.ListN.{take, length-append}
-use mathlib.Core.List.{◌++◌, append_assoc}
+use borrow.Author.Tests.{ne_eqb}
 use borrow.Rule.Slice.PartMut.{put_mid}
 use Rattle.laws.specs.Front.{fronted}
-use borrow.Author.Tests.{ne_eqb}
 use Rattle.refusal.specs.declared.Fault.TheVariants.{ImageLength}
 use Rattle.refusal.specs.declared.Refusal.{Refusal}
 use Rattle.refusal.specs.Number.{number}
@@ -58,12 +56,7 @@ told r w = cond (eqb (get_or w 0 0) 0) (present w) (Err r)
 
 -- a refusal to stand where an answer has none
 refusal_or : Result (Option Cell) Refusal → Refusal
-refusal_or (Ok (Some (Number value))) = ImageLength at 0
-refusal_or (Ok (Some Empty)) = ImageLength at 0
-refusal_or (Ok (Some (Item item))) = ImageLength at 0
-refusal_or (Ok (Some (Subnode subnode))) = ImageLength at 0
-refusal_or (Ok (Some Missing)) = ImageLength at 0
-refusal_or (Ok None) = ImageLength at 0
+refusal_or (Ok cell) = ImageLength at 0
 refusal_or (Err r) = r
 
 or_one : ℕ → ℕ
