@@ -11,7 +11,6 @@ use Rattle.refusal.specs.declared.Refusal.{Refusal}
 use Rattle.refusal.specs.Order.{◌then◌, in_order}
 use Rattle.refusal.proofs.OrderLaws.{goes, ends, then_left, then_right, in_order_append}
 use Rattle.heaptree.specs.declared.HeapTree.{HeapTree}
-use Rattle.heaptree.specs.Value.{FairTree}
 use Rattle.heaptree.specs.Root.{root_rules, Rooted}
 use Rattle.heaptree.specs.Lookup.{from_root}
 use Rattle.heaptree.proofs.RootLaws.{root_exactly}
@@ -38,13 +37,9 @@ module _ (block : List ℕ) where
   unfolding column_of
   column_on index e = goes Err _ _ e
 
--- a fair row index is a fair tree, and its row numbers fit four bytes
-module _ (tree : HeapTree) (fair : FairIndex tree) where
-  pub fair_tree : FairTree tree
-  fair_tree = (fair.0, fair.1, omega (arith, fair.2))
-
-  pub number_fits_lem : 256 ^ tree.entry ≤ 4294967296
-  number_fits_lem = pow-le-pow_right {n = 256} (zero-lt-suc 255) fair.2
+-- the row numbers of a fair row index fit four bytes
+pub number_fits_lem : (tree : HeapTree) → FairIndex tree → 256 ^ tree.entry ≤ 4294967296
+number_fits_lem tree fair = pow-le-pow_right {n = 256} (zero-lt-suc 255) fair.2
 
 module _ (tree : HeapTree) (block : List ℕ) where
   table_first : index_test tree block ≡ (table_test block then in_order (root_rules tree block (index_root block)))
