@@ -4,35 +4,13 @@ use mathlib.Core.Path.{◌≡◌, sym, ap, ◌∙◌}
 use mathlib.Core.Bool.{true, false}
 use mathlib.Core.List.{List}
 use borrow.Author.Tests.{le-leb, lt-leb}
-use Rattle.refusal.proofs.OrderLaws.{test_goes, test_ends}
-use Rattle.heap.specs.Items.{item_fits, bad_item}
 use Rattle.columns.specs.declared.Column.{Column}
 use Rattle.columns.specs.Columns.{column_at, refers, seat_of}
-use Rattle.table.specs.declared.Named.{Named}
-use Rattle.table.specs.declared.Named.TheVariants as named
 use Rattle.table.specs.Says.{named_by}
 use Rattle.cells.specs.Rows.{row_count, row_at}
 use Rattle.cells.specs.Cells.{exists, named_cell, stored, cell_at, cell_by, cell_in}
-use Rattle.std.specs.Prelude.{Some, None, Ok, Err}
-use Rattle.cells.specs.declared.Cell.TheVariants.{Empty, Item, Missing, Number, Subnode}
-
--- what a reference names is known
-module _ (block : List ℕ) (n : Named) where
-  pub cell_empty : n ≡ named.Nothing → named_cell block n ≡ Ok (Some Empty)
-  unfolding named_cell
-  cell_empty e = ap (named_cell block) e
-
-  pub cell_subnode : (subnode : ℕ) → n ≡ named.Subnode subnode → named_cell block n ≡ Ok (Some (Subnode subnode))
-  unfolding named_cell
-  cell_subnode subnode e = ap (named_cell block) e
-
-  pub cell_item : (item : ℕ) → n ≡ named.Item item → item_fits block item ≡ true → named_cell block n ≡ Ok (Some (Item item))
-  unfolding named_cell
-  cell_item item e h = ap (named_cell block) e ∙ test_goes Err _ _ _ h
-
-  pub cell_wrong : (item : ℕ) → n ≡ named.Item item → item_fits block item ≡ false → named_cell block n ≡ Err bad_item
-  unfolding named_cell
-  cell_wrong item e h = ap (named_cell block) e ∙ test_ends Err _ _ (Ok (Some (Item item))) h
+use Rattle.std.specs.Prelude.{Some, None, Ok}
+use Rattle.cells.specs.declared.Cell.TheVariants.{Missing, Number}
 
 module _ (block table row : List ℕ) (column : Column) where
   pub cell_missing : exists table row column ≡ false → cell_at block table row column ≡ Ok (Some Missing)

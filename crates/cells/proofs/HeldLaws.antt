@@ -1,21 +1,20 @@
 -- What holds the rows of a table is accepted exactly when its rule holds. Assumes nothing.
-use Prim.Native.Nat.{ℕ, ◌≤◌, ◌<◌}
-use mathlib.Core.Path.{◌≡◌, refl, sym, ap, ◌∙◌, subst}
-use mathlib.Core.Bool.{Bool, true, false}
+use Prim.Native.Nat.{ℕ}
+use mathlib.Core.Path.{◌≡◌, refl, sym, ◌∙◌, subst}
+use mathlib.Core.Bool.{Bool, true}
 use mathlib.Core.List.{List, [], ◌∷◌}
 use mathlib.Core.Logic.{◌↔◌}
-use lib.ListN.{length}
-use borrow.Author.Tests.{leb-true, le-leb, lt-leb}
+use borrow.Author.Tests.{leb-true, le-leb}
 use Rattle.refusal.specs.declared.Refusal.{Refusal}
 use Rattle.refusal.specs.Order.{Verdict, ◌then◌, rule, in_order, after, FirstFault}
-use Rattle.refusal.proofs.OrderLaws.{goes, ends, demanded, test_goes, test_ends, then_left, then_right, refused_exactly, in_order_append}
-use Rattle.heap.specs.Items.{item_fits, Numbered, bad_item, item_part}
+use Rattle.refusal.proofs.OrderLaws.{goes, ends, demanded, test_goes, then_left, then_right, refused_exactly, in_order_append}
+use Rattle.heap.specs.Items.{Numbered}
 use Rattle.heap.proofs.ItemLaws.{number_exactly}
 use Rattle.table.specs.declared.Named.{Named}
 use Rattle.table.specs.declared.Named.TheVariants.{Nothing, Item, Subnode}
-use Rattle.table.specs.Context.{bad_table, table_record, table_rules, table_test, TableSound}
+use Rattle.table.specs.Context.{table_record, table_rules, table_test, TableSound}
 use Rattle.table.proofs.ContextLaws.{table_exactly}
-use Rattle.cells.specs.Rows.{held_rules, Held, held_bytes, rows_named, row_bytes, rows_rules, rows_test, row_count, count_of}
+use Rattle.cells.specs.Rows.{held_rules, Held, rows_named, row_bytes, rows_rules, rows_test, row_count, count_of}
 use Rattle.cells.specs.Cells.{cell_in, cell_of}
 use Rattle.std.specs.Prelude.{Ok, Err}
 
@@ -23,10 +22,6 @@ use Rattle.std.specs.Prelude.{Ok, Err}
 one_holds : (t : Bool) (r : Refusal) → t ≡ true → in_order (rule t r ∷ []) ≡ Ok tt
 unfolding in_order
 one_holds t r e = test_goes Err t r (Ok tt) e
-
-one_breaks : (t : Bool) (r : Refusal) → t ≡ false → in_order (rule t r ∷ []) ≡ Err r
-unfolding in_order
-one_breaks t r e = test_ends Err t r (Ok tt) e
 
 one_held : (t : Bool) (r : Refusal) → in_order (rule t r ∷ []) ≡ Ok tt → t ≡ true
 unfolding in_order
@@ -45,45 +40,10 @@ module _ (block rows : List ℕ) where
   holds (Item item) h = one_holds _ _ ((number_exactly block item).1 h)
   holds (Subnode subnode) h = one_holds _ _ (le-leb _ _ h)
 
-  -- what was named is known
-  module _ (named : Named) where
-    pub none_held : named ≡ Nothing → in_order (held_rules block rows named) ≡ Ok tt
-    unfolding Held
-    none_held e = ap (λ (n : Named). in_order (held_rules block rows n)) e ∙ holds Nothing tt
-
-    module _ (item : ℕ) (e : named ≡ Item item) where
-      pub item_held : item_fits block item ≡ true → in_order (held_rules block rows named) ≡ Ok tt
-      unfolding held_rules
-      item_held h = ap (λ (n : Named). in_order (held_rules block rows n)) e ∙ one_holds _ _ h
-
-      pub item_wrong : item_fits block item ≡ false → in_order (held_rules block rows named) ≡ Err bad_item
-      unfolding held_rules
-      item_wrong h = ap (λ (n : Named). in_order (held_rules block rows n)) e ∙ one_breaks _ _ h
-
-      pub item_named : Held block rows named → Numbered block item
-      unfolding Held
-      item_named h = subst (Held block rows) e h
-
-      pub item_bytes : held_bytes block rows named ≡ item_part block item
-      unfolding held_bytes
-      item_bytes = ap (held_bytes block rows) e
-
-    module _ (subnode : ℕ) (e : named ≡ Subnode subnode) where
-      pub subnode_held : length rows ≤ 8180 → in_order (held_rules block rows named) ≡ Ok tt
-      unfolding held_rules
-      subnode_held h = ap (λ (n : Named). in_order (held_rules block rows n)) e ∙ one_holds _ _ (le-leb _ _ h)
-
-      pub subnode_wrong : 8180 < length rows → in_order (held_rules block rows named) ≡ Err bad_table
-      unfolding held_rules
-      subnode_wrong h = ap (λ (n : Named). in_order (held_rules block rows n)) e ∙ one_breaks _ _ (lt-leb _ _ h)
-
-      pub subnode_bytes : held_bytes block rows named ≡ rows
-      unfolding held_bytes
-      subnode_bytes = ap (held_bytes block rows) e
-
-    pub none_bytes : named ≡ Nothing → held_bytes block rows named ≡ []
-    unfolding held_bytes
-    none_bytes e = ap (held_bytes block rows) e
+  -- an item that is named
+  pub item_named : (named : Named) (item : ℕ) → named ≡ Item item → Held block rows named → Numbered block item
+  unfolding Held
+  item_named named item e h = subst (Held block rows) e h
 
   -- the table first
   table_first : rows_test block rows ≡ (table_test block then in_order (held_rules block rows (rows_named block)))
@@ -110,10 +70,6 @@ module _ (block rows : List ℕ) where
   pub count_on : rows_test block rows ≡ Ok tt → count_of block rows ≡ Ok (row_count (table_record block) (row_bytes block rows))
   unfolding count_of
   count_on e = goes Err _ _ e
-
-  pub cell_refused : (row tag : ℕ) (r : Refusal) → rows_test block rows ≡ Err r → cell_of block rows row tag ≡ Err r
-  unfolding cell_of
-  cell_refused row tag r e = ends Err _ _ r e
 
   pub cell_on : (row tag : ℕ) → rows_test block rows ≡ Ok tt → cell_of block rows row tag ≡ cell_in block (table_record block) (row_bytes block rows) row tag
   unfolding cell_of

@@ -1,7 +1,7 @@
 // The record of a table and its columns.
 #![tactic(auto)]
 
-ghost use Rattle.std.specs.Prelude.{◌≡◌, ◌+◌, ◌*◌, ◌-◌, ◌≤◌, ◌<◌, length};
+ghost use Rattle.std.specs.Prelude.{◌≡◌, ◌+◌, ◌*◌, ◌≤◌, ◌<◌, length};
 ghost use Rattle.le.specs.Bytes.{byte, field};
 ghost use Rattle.columns.specs.Record.{column_count, existence_start, row_size_of, row_index_item, rows_value_of, record_fits};
 ghost use Rattle.columns.specs.Columns.{column_at, reference, refers as refers_of, width_fits, column_fits, each_fits, seat_of};

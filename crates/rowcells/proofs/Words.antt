@@ -1,12 +1,14 @@
--- The six words of a place. Assumes nothing.
-use Prim.Native.Nat.{ℕ, zero, suc, ◌≤◌}
+-- The six words of a place, and where they come to stand. Assumes nothing.
+use Prim.Native.Nat.{ℕ, zero, suc}
 use mathlib.Core.Path.{◌≡◌, refl, sym, ap, ap₂, ◌∙◌}
 use mathlib.Core.Bool.{cond}
-use mathlib.Core.List.{List, [], ◌∷◌}
+use mathlib.Core.List.{List, ◌++◌, append_assoc}
 use lib.Dec.{eqb}
-use lib.ListN.{length, get_or, drop, set}
-use lib.Seq.{sets-eq}
+use lib.ListN.{length, get_or, take, drop, length-append}
+use lib.Seq.{take_at, drop_at, drop-drop}
 use borrow.Author.Tests.{ne_eqb}
+use borrow.Rule.Slice.PartMut.{put_mid}
+use Rattle.laws.specs.Front.{fronted}
 use Rattle.refusal.specs.declared.Fault.TheVariants.{ImageLength}
 use Rattle.refusal.specs.declared.Refusal.{Refusal}
 use Rattle.refusal.specs.Number.{number}
@@ -17,10 +19,13 @@ use Rattle.std.specs.Prelude.{Option, Some, None, Result, Ok, Err}
 use Rattle.cells.specs.declared.Cell.{Cell}
 use Rattle.cells.specs.declared.Cell.TheVariants.{Empty, Item, Missing, Number, Subnode}
 
--- what stands where six words were written one by one
-pub six_written : (a b c d e f : ℕ) (s : List ℕ) → 6 ≤ length s
-    → set (set (set (set (set (set s 0 a) 1 b) 2 c) 3 d) 4 e) 5 f ≡ a ∷ b ∷ c ∷ d ∷ e ∷ f ∷ drop 6 s
-six_written a b c d e f s l = sets-eq (a ∷ b ∷ c ∷ d ∷ e ∷ f ∷ []) s 0 l
+-- c comes to stand right behind J, in place of as many words
+pub put_behind : (o J c out : List ℕ) (n k : ℕ) → out ≡ fronted J o → n ≡ length J → k ≡ length c → put_mid n k out c ≡ fronted (J ++ c) o
+put_behind o J c out n k e h w =
+    ap (λ x. take n x ++ (c ++ drop k (drop n x))) e
+    ∙ ap₂ (λ x y. x ++ (c ++ drop k y)) (take_at J (drop (length J) o) n (sym h)) (drop_at J (drop (length J) o) n (sym h))
+    ∙ sym (append_assoc J c (drop k (drop (length J) o)))
+    ∙ ap (λ x. (J ++ c) ++ x) (ap (λ m. drop m (drop (length J) o)) w ∙ drop-drop (length c) (length J) o ∙ ap (λ m. drop m o) (sym (length-append J c)))
 
 pub words_length : (x : Result (Option Cell) Refusal) → length (cell_words x) ≡ 6
 unfolding cell_words
@@ -51,12 +56,7 @@ told r w = cond (eqb (get_or w 0 0) 0) (present w) (Err r)
 
 -- a refusal to stand where an answer has none
 refusal_or : Result (Option Cell) Refusal → Refusal
-refusal_or (Ok (Some (Number value))) = ImageLength at 0
-refusal_or (Ok (Some Empty)) = ImageLength at 0
-refusal_or (Ok (Some (Item item))) = ImageLength at 0
-refusal_or (Ok (Some (Subnode subnode))) = ImageLength at 0
-refusal_or (Ok (Some Missing)) = ImageLength at 0
-refusal_or (Ok None) = ImageLength at 0
+refusal_or (Ok cell) = ImageLength at 0
 refusal_or (Err r) = r
 
 or_one : ℕ → ℕ

@@ -11,7 +11,6 @@ use Rattle.refusal.specs.declared.Refusal.{Refusal}
 use Rattle.refusal.specs.Order.{◌then◌, in_order}
 use Rattle.refusal.proofs.OrderLaws.{goes, ends, then_left, then_right, in_order_append}
 use Rattle.heaptree.specs.declared.HeapTree.{HeapTree}
-use Rattle.heaptree.specs.Value.{FairTree}
 use Rattle.heaptree.specs.Root.{root_rules, Rooted}
 use Rattle.heaptree.specs.Lookup.{from_root}
 use Rattle.heaptree.proofs.RootLaws.{root_exactly}
@@ -19,7 +18,7 @@ use Rattle.table.specs.Context.{table_record, table_rules, table_test, TableSoun
 use Rattle.table.specs.Says.{table_in, table_of, column_in, column_of}
 use Rattle.table.specs.RowIndex.{FairIndex, row_from, index_root, index_test, row_of}
 use Rattle.table.proofs.ContextLaws.{table_exactly}
-use Rattle.std.specs.Prelude.{Some, Ok, Err}
+use Rattle.std.specs.Prelude.{Option, Some, Result, Ok, Err}
 
 module _ (block : List ℕ) where
   pub table_refused : (r : Refusal) → table_test block ≡ Err r → table_of block ≡ Err r
@@ -34,17 +33,13 @@ module _ (block : List ℕ) where
   unfolding column_of
   column_refused index r e = ends Err _ _ r e
 
-  pub column_on : (index : ℕ) → table_test block ≡ Ok tt → column_of block index ≡ column_in (table_record block) index
+  pub column_on : (index : ℕ) → table_test block ≡ Ok tt → column_of block index ≡ Ok (column_in (table_record block) index)
   unfolding column_of
   column_on index e = goes Err _ _ e
 
--- a fair row index is a fair tree, and its row numbers fit four bytes
-module _ (tree : HeapTree) (fair : FairIndex tree) where
-  pub fair_tree : FairTree tree
-  fair_tree = (fair.0, fair.1, omega (arith, fair.2))
-
-  pub number_fits_lem : 256 ^ tree.entry ≤ 4294967296
-  number_fits_lem = pow-le-pow_right {n = 256} (zero-lt-suc 255) fair.2
+-- the row numbers of a fair row index fit four bytes
+pub number_fits_lem : (tree : HeapTree) → FairIndex tree → 256 ^ tree.entry ≤ 4294967296
+number_fits_lem tree fair = pow-le-pow_right {n = 256} (zero-lt-suc 255) fair.2
 
 module _ (tree : HeapTree) (block : List ℕ) where
   table_first : index_test tree block ≡ (table_test block then in_order (root_rules tree block (index_root block)))
@@ -64,14 +59,10 @@ module _ (tree : HeapTree) (block : List ℕ) where
     (λ h. right_table ((table_exactly block).1 h.0) ∙ (root_exactly tree block (index_root block)).1 h.1),
   )
 
-  pub row_refused : (id : ℕ) (r : Refusal) → index_test tree block ≡ Err r → row_of tree block id ≡ Err r
-  unfolding row_of
-  row_refused id r e = ends Err _ _ r e
-
   pub row_on : (id : ℕ) → index_test tree block ≡ Ok tt → row_of tree block id ≡ row_from tree (from_root tree block (index_root block) id)
   unfolding row_of
   row_on id e = goes Err _ _ e
 
   -- the row number in the leaf record at a place
-  pub row_at_lem : (place : ℕ) → Ok (Some (field block (place + tree.key) tree.entry)) ≡ Ok (Some (field (part block place (tree.key + tree.entry)) tree.key tree.entry))
+  pub row_at_lem : (place : ℕ) → ◌≡◌ {A = Result (Option ℕ) Refusal} (Ok (Some (field block (place + tree.key) tree.entry))) (Ok (Some (field (part block place (tree.key + tree.entry)) tree.key tree.entry)))
   row_at_lem place = ap (λ n. Ok (Some n)) (sym (field_part block place (tree.key + tree.entry) tree.key tree.entry (omega arith)))

@@ -23,8 +23,8 @@ unfoldable pub table_of : List ℕ → Result Table Refusal
 table_of block = after Err (table_test block) (Ok (table_in (table_record block)))
 
 -- a column by its index; past the last there is none
-unfoldable pub column_in : List ℕ → ℕ → Result (Option Column) Refusal
-column_in table index = cond (leb (index + 1) (column_count table)) (Ok (Some (column_at table index))) (Ok None)
+unfoldable pub column_in : List ℕ → ℕ → Option Column
+column_in table index = cond (leb (index + 1) (column_count table)) (Some (column_at table index)) None
 
 unfoldable pub column_of : List ℕ → ℕ → Result (Option Column) Refusal
-column_of block index = after Err (table_test block) (column_in (table_record block) index)
+column_of block index = after Err (table_test block) (Ok (column_in (table_record block) index))

@@ -1,7 +1,7 @@
 // A table on a heap: its record, its columns and its row index.
 #![tactic(auto)]
 
-ghost use Rattle.std.specs.Prelude.{◌≡◌, ◌<◌};
+ghost use Rattle.std.specs.Prelude.{◌≡◌};
 ghost use Rattle.refusal.specs.Order.{in_order};
 ghost use Rattle.heap.specs.Shape.{Heap};
 ghost use Rattle.heaptree.specs.Lookup.{from_root};
@@ -11,11 +11,11 @@ ghost use Rattle.table.specs.Says.{named_by, table_in, table_of, column_in, colu
 ghost use Rattle.table.specs.RowIndex.{row_index_of, row_index, row_index32, FairIndex, row_from, index_root, index_test, row_of};
 
 use columns::Column;
-use heaptree::{FoundRecord, HeapTree};
+use heaptree::HeapTree;
 use refusal::{Fault, Refusal, Verdict};
 
 // What a value names: nothing, an item of the heap, or a subnode.
-#[derive(Clone, Copy)]
+#[derive(Clone, Copy, Debug, PartialEq, Eq)]
 pub enum Named {
     Nothing,
     Item(u32),
@@ -23,7 +23,7 @@ pub enum Named {
 }
 
 // How many columns a table has, the size of a row, where its existence bytes begin, and what holds the rows.
-#[derive(Clone, Copy)]
+#[derive(Clone, Copy, Debug, PartialEq, Eq)]
 pub struct Table {
     pub columns: u64,
     pub size: u64,
@@ -57,10 +57,7 @@ fn check_context(block: &[u8]) -> Verdict
 pub fn test_table(block: &[u8]) -> Verdict
     ensures { result ≡ table_test block.now }
 {
-    let shape = heap::test_heap(block);
-    let Ok(()) = shape else {
-        return shape;
-    };
+    heap::test_heap(block)?;
     check_context(block)
 }
 
@@ -89,15 +86,11 @@ fn table_in(block: &[u8]) -> Table
     ensures { result ≡ table_in (table_record block.now) }
 {
     let table = record_of(block);
-    let columns = columns::column_count(table) as u64;
-    let size = columns::row_size(table) as u64;
-    let existence = columns::existence_start(table) as u64;
-    let rows = named_by(columns::rows_value(table));
     Table {
-        columns,
-        size,
-        existence,
-        rows,
+        columns: columns::column_count(table) as u64,
+        size: columns::row_size(table) as u64,
+        existence: columns::existence_start(table) as u64,
+        rows: named_by(columns::rows_value(table)),
     }
 }
 
@@ -105,34 +98,28 @@ fn table_in(block: &[u8]) -> Table
 pub fn table_of(block: &[u8]) -> Result<Table, Refusal>
     ensures { result ≡ table_of block.now }
 {
-    let verdict = test_table(block);
-    match verdict {
-        Err(refusal) => Err(refusal),
-        Ok(()) => Ok(table_in(block)),
-    }
+    test_table(block)?;
+    Ok(table_in(block))
 }
 
-fn column_in(block: &[u8], index: u32) -> Result<Option<Column>, Refusal>
+fn column_in(block: &[u8], index: u32) -> Option<Column>
     requires { TableSound block.now }
     ensures { result ≡ column_in (table_record block.now) index }
 {
     let table = record_of(block);
     let i = index as usize;
     if columns::column_count(table) < i + 1 {
-        return Ok(None);
+        return None;
     }
-    Ok(Some(columns::column_at(table, i)))
+    Some(columns::column_at(table, i))
 }
 
 // A column by its index, in stored order.
 pub fn column_of(block: &[u8], index: u32) -> Result<Option<Column>, Refusal>
     ensures { result ≡ column_of block.now index }
 {
-    let verdict = test_table(block);
-    match verdict {
-        Err(refusal) => Err(refusal),
-        Ok(()) => column_in(block, index),
-    }
+    test_table(block)?;
+    Ok(column_in(block, index))
 }
 
 // A row index whose entries have so many bytes: its keys are ids of rows, its entries row numbers.
@@ -150,10 +137,7 @@ fn row_index(entry: usize) -> HeapTree
 fn test_index(block: &[u8], tree: HeapTree) -> Verdict
     ensures { result ≡ index_test tree block.now }
 {
-    let verdict = test_table(block);
-    let Ok(()) = verdict else {
-        return verdict;
-    };
+    test_table(block)?;
     let root = columns::row_index_item(record_of(block));
     heaptree::check_root(block, tree, root)
 }
@@ -163,14 +147,10 @@ fn find_in_index(block: &[u8], tree: HeapTree, id: u32) -> Result<Option<u32>, R
     ensures { result ≡ row_from tree (from_root tree block.now (index_root block.now) id) }
 {
     let root = columns::row_index_item(record_of(block));
-    let key = tree.key;
-    let entry = tree.entry;
-    let found = heaptree::find_from(block, tree, root, id as u64);
-    match found {
-        Ok(Some(place)) => Ok(Some(le::field_of(block, place + key, entry) as u32)),
-        Ok(None) => Ok(None),
-        Err(refusal) => Err(refusal),
-    }
+    let Some(place) = heaptree::find_from(block, tree, root, id as u64)? else {
+        return Ok(None);
+    };
+    Ok(Some(le::field_of(block, place + tree.key, tree.entry) as u32))
 }
 
 // The number of the row with the id, by this row index.
@@ -178,11 +158,8 @@ fn find_row_in(block: &[u8], tree: HeapTree, id: u32) -> Result<Option<u32>, Ref
     requires { FairIndex tree }
     ensures { result ≡ row_of tree block.now id }
 {
-    let verdict = test_index(block, tree);
-    match verdict {
-        Err(refusal) => Err(refusal),
-        Ok(()) => find_in_index(block, tree, id),
-    }
+    test_index(block, tree)?;
+    find_in_index(block, tree, id)
 }
 
 // The number of the row with the id, by the row index.

@@ -1,9 +1,5 @@
-use lib.ListN.{length}
 use mathlib.Core.Path.{sym, ap, ◌∙◌}
-use Prim.Native.Nat.{◌≤◌, ◌+◌}
-use native.Mathlib.Omega.{arith}
 use Rattle.laws.proofs.Tests.{fails, holds}
-use Rattle.columns.proofs.ColumnLaws.{width_bounds}
 use Rattle.table.specs.Says.{named_by}
 use Rattle.cells.specs.Cells.{named_cell, stored}
 use Rattle.cells.proofs.CellLaws.{cell_missing, cell_number, cell_named}
@@ -13,20 +9,6 @@ use Rattle.cells.specs.declared.Cell.TheVariants.{Number}
 
 pub returns-then-not-has_cell : goal.returns-then-not-has_cell
 returns-then-not-has_cell c = sym (cell_missing _ _ _ _ (fails _ _ c.has_cell.ensures c.if-not-has_cell.true))
-
-pub field_of-stored-requires : goal.field_of-stored-requires
-field_of-stored-requires c =
-    let a = c.args in
-    let pre = c.requires in
-    let inside : a.column.offset + a.column.width ≤ length a.row.now = omega (arith, pre.2.before, pre.1.existence, pre.3) in
-    (inside, (width_bounds a.column a.table.now pre.2).1)
-
-pub overflow_cast-stored : goal.overflow_cast-stored
-overflow_cast-stored c =
-    let pre = c.requires in
-    let four = pre.2.four (sym c.refers.ensures ∙ c.if-refers.true) in
-    let small = c.field_of-stored.ensures.1 in
-    omega (arith, rw four at small)
 
 pub returns-then-refers : goal.returns-then-refers
 unfolding stored

@@ -1,11 +1,8 @@
-use mathlib.Core.Path.{sym, ◌∙◌}
-use Rattle.rowcells.proofs.ReadLaws.{read_refused, area_refused}
+use Rattle.std.proofs.Common.{rules}
+use Rattle.refusal.specs.Order.{after}
+use Rattle.rowcells.specs.RowCells.{row_read, row_area}
 use Rattle.rowcells.proofs.read_row.Goals as goal
 
-pub read_in-requires : goal.read_in-requires
-read_in-requires c = sym c.test_rows-verdict.ensures ∙ c.in-Ok.is
-
-pub returns-in-Err : goal.returns-in-Err
-returns-in-Err c =
-    let e = sym c.test_rows-verdict.ensures ∙ c.in-Err.is in
-    record { answer = sym (read_refused _ _ _ _ e _); area = sym (area_refused _ _ _ _ e _) }
+pub returns-in_err-test_rows : goal.returns-in_err-test_rows
+unfolding row_read row_area after
+returns-in_err-test_rows c = record { answer = search rules; area = search rules }

@@ -3,9 +3,6 @@ use Rattle.heap.specs.Items.{item_part}
 use Rattle.table.specs.Context.{table_record}
 use Rattle.table.proofs.record_of.Goals as goal
 
-pub part_of-requires : goal.part_of-requires
-part_of-requires c = rw c.user_root.ensures (c.requires.heap, c.requires.named)
-
 pub returns : goal.returns
 unfolding table_record
 returns c = c.part_of.ensures ∙ ap (item_part c.args.block.now) c.user_root.ensures

@@ -1,14 +1,16 @@
-use mathlib.Core.Path.{sym, ap, ◌∙◌}
+use Rattle.std.proofs.Common.{sym, rules}
+use Rattle.refusal.specs.Order.{after}
+use Rattle.table.specs.Says.{table_of}
 use Rattle.table.proofs.ContextLaws.{table_exactly}
-use Rattle.table.proofs.IndexLaws.{table_refused, table_on}
 use Rattle.table.proofs.table_of.Goals as goal
-use Rattle.std.specs.Prelude.{Ok}
+
+pub returns-in_err-test_table : goal.returns-in_err-test_table
+unfolding table_of after
+returns-in_err-test_table c = search rules
 
 pub table_in-requires : goal.table_in-requires
-table_in-requires c = (table_exactly _).0 (sym c.test_table-verdict.ensures ∙ c.in-Ok.is)
+table_in-requires c = (table_exactly _).0 (sym c.in_ok-test_table.ensures)
 
-pub returns-in-Err : goal.returns-in-Err
-returns-in-Err c = sym (table_refused _ _ (sym c.test_table-verdict.ensures ∙ c.in-Err.is))
-
-pub returns-in-Ok : goal.returns-in-Ok
-returns-in-Ok c = ap Ok c.table_in.ensures ∙ sym (table_on _ (sym c.test_table-verdict.ensures ∙ c.in-Ok.is))
+pub returns : goal.returns
+unfolding table_of after
+returns c = search rules
