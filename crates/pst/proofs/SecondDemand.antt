@@ -93,7 +93,7 @@ block_tree_holds : (image : List ℕ) → (blocks_outcome image ≡ answered [])
 unfolding blocks_outcome
 block_tree_holds image = both_ways (accepted_means (tree_fits (blocks_of image) image)) (tree_exactly (blocks_of image) image)
 
-size_is : {m n : ℕ} → Ok m ≡ Ok n → m ≡ n
+size_is : {m n : ℕ} → ◌≡◌ {A = Result ℕ Refusal} (Ok m) (Ok n) → m ≡ n
 size_is e = cc
 
 block_size : (b : Listed) (size : ℕ) → b.size ≡ size → sized_means (Ok b.size) ≡ answered (size ∷ [])
@@ -153,7 +153,7 @@ module _ (image : List ℕ) (number : ℕ) where
   bytes_hold out b s h = sym (read_fills (edition_of image) image number out b (sound_checked b s) h).1
 
 -- node data
-length_is : {m n : ℕ} → Ok (Some m) ≡ Ok (Some n) → m ≡ n
+length_is : {m n : ℕ} → ◌≡◌ {A = Result (Option ℕ) Refusal} (Ok (Some m)) (Ok (Some n)) → m ≡ n
 length_is e = cc
 
 module _ (image : List ℕ) (node : ℕ) where

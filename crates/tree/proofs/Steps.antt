@@ -56,28 +56,28 @@ unfolding shown answer
 leaf_some L o n e h = rw h
 
 module _ (L : Layout) (image : List ℕ) (s : Sought) where
-  -- a page of the way, whose check answered v, when n pages have been read
-  module _ (k n : ℕ) (p : Link) (v : Verdict) (page-is : v ≡ page_fits L image p) where
-    tested : (l : ℕ) → v ≡ test (page_tree L image) l p
-    tested l = page-is ∙ sym (test_is L image l p)
+  -- a page of the way, when n pages have been read
+  module _ (k n : ℕ) (p : Link) where
+    tested : (v : Verdict) → v ≡ page_fits L image p → (l : ℕ) → v ≡ test (page_tree L image) l p
+    tested v e l = e ∙ sym (test_is L image l p)
 
-    pub way_refused : (l : ℕ) (r : Refusal) → v ≡ Err r → Err r ≡ shown L (counted n (descend (page_tree L image) s k l p))
+    pub way_refused : (l : ℕ) (r : Refusal) → Err r ≡ page_fits L image p → Err r ≡ shown L (counted n (descend (page_tree L image) s k l p))
     unfolding counted shown
-    way_refused l r q = ap (λ a. shown L (counted n a)) (sym (step_refused (page_tree L image) s k p v l r (tested l) q))
+    way_refused l r e = ap (λ a. shown L (counted n a)) (sym (step_refused (page_tree L image) s k p (Err r) l r (tested (Err r) e l) refl))
 
-    pub way_leaf : (l : ℕ) → l ≡ 0 → v ≡ Ok tt
+    pub way_leaf : (l : ℕ) → l ≡ 0 → Ok tt ≡ page_fits L image p
         → shown L (answer (scanned s (key_in L) k (entries L (page image p.offset))) (n + 1)) ≡ shown L (counted n (descend (page_tree L image) s k l p))
-    way_leaf l h q =
-        ap (shown L) (sym (counted_answer n (scanned s (key_in L) k (entries L (page image p.offset))) 1) ∙ ap (counted n) (sym (step_leaf (page_tree L image) s k p v l h (tested l) q)))
+    way_leaf l h ok =
+        ap (shown L) (sym (counted_answer n (scanned s (key_in L) k (entries L (page image p.offset))) 1) ∙ ap (counted n) (sym (step_leaf (page_tree L image) s k p (Ok tt) l h (tested (Ok tt) ok l) refl)))
 
-    module _ (l : ℕ) (h : l ≡ 0 → ⊥) (q : v ≡ Ok tt) where
+    module _ (l : ℕ) (h : l ≡ 0 → ⊥) (ok : Ok tt ≡ page_fits L image p) where
       pub way_index : (cs : List Link) → picked (page_tree L image) s k (children (page_tree L image) (l - 1) p) ≡ cs
           → counted n (counted 1 (in_turn (λ c. descend (page_tree L image) s k (l - 1) c) cs)) ≡ counted n (descend (page_tree L image) s k l p)
-      way_index cs e = ap (counted n) (sym (step_index (page_tree L image) s k p v l cs h (tested l) q e))
+      way_index cs e = ap (counted n) (sym (step_index (page_tree L image) s k p (Ok tt) l cs h (tested (Ok tt) ok l) refl e))
 
       pub way_none : picked (page_tree L image) s k (children (page_tree L image) (l - 1) p) ≡ [] → Ok (Absent (n + 1)) ≡ shown L (counted n (descend (page_tree L image) s k l p))
       unfolding counted shown
-      way_none e = ap (λ a. shown L (counted n a)) (sym (step_none (page_tree L image) s k p v l h (tested l) q e))
+      way_none e = ap (λ a. shown L (counted n a)) (sym (step_none (page_tree L image) s k p (Ok tt) l h (tested (Ok tt) ok l) refl e))
 
   -- where an offset is not allowed, the level plays no part
   any_level : (k : ℕ) (p : Link) (l m : ℕ) → (offset_fits image p.offset ≡ true → l ≡ m) → descend (page_tree L image) s k l p ≡ descend (page_tree L image) s k m p
@@ -90,21 +90,21 @@ module _ (L : Layout) (image : List ℕ) (s : Sought) where
           step_refused (page_tree L image) s k p _ l _ (out ∙ sym (test_is L image l p)) refl
           ∙ sym (step_refused (page_tree L image) s k p _ m _ (out ∙ sym (test_is L image m p)) refl)
 
-  -- the header, whose check answered v, and then the way from the root
-  module _ (key : ℕ) (v : Verdict) (header_is : v ≡ header_fits image) where
-    pub root_refused : (r : Refusal) → v ≡ Err r → refused r ≡ searched s L image key
+  -- the header, and then the way from the root
+  module _ (key : ℕ) where
+    pub root_refused : (r : Refusal) → Err r ≡ header_fits image → refused r ≡ searched s L image key
     unfolding searched
-    root_refused r q = sym (ends refused _ _ r (sym header_is ∙ q))
+    root_refused r e = sym (ends refused _ _ r (sym e))
 
-    pub root_on : (p : Link) (l k : ℕ) → v ≡ Ok tt → p ≡ root L image → k ≡ asked_for s L key
+    pub root_on : (p : Link) (l k : ℕ) → Ok tt ≡ header_fits image → p ≡ root L image → k ≡ asked_for s L key
         → (offset_fits image p.offset ≡ true → l ≡ level_of L (page image p.offset)) → counted 0 (descend (page_tree L image) s k l p) ≡ searched s L image key
     unfolding root_level searched
-    root_on p l k q e h f =
+    root_on p l k ok e h f =
         counted_none (descend (page_tree L image) s k l p)
         ∙ any_level k p l (level_of L (page image p.offset)) f
         ∙ ap (λ (x : Link). descend (page_tree L image) s k (level_of L (page image x.offset)) x) e
         ∙ ap (λ (m : ℕ). descend (page_tree L image) s m (level_of L (page image (root L image).offset)) (root L image)) h
-        ∙ sym (goes refused _ _ (sym header_is ∙ q))
+        ∙ sym (goes refused _ _ (sym ok))
 
 -- the chosen child has the level below
 pub chosen_level : (L : Layout) (image : List ℕ) (k l : ℕ) (p c : Link) → picked (page_tree L image) Equal k (children (page_tree L image) l p) ≡ c ∷ []

@@ -70,43 +70,40 @@ next_level L image l p c i e ok = accepted_level L image c ok l (by (records_fro
     by [] e = let clash : ◌≡◌ {A = ℕ} 0 1 = cc in absurd (omega arith)
     by (x ∷ xs) e = let same : c ≡ link_of L l (record { from = key_in L x; to = end_of (key_in L) p.range.to xs }) x = cc in ap (λ (z : Link). z.level) same
 
--- a check of each child from the i-th on
+-- a check of each of these children
 module _ (L : Layout) (image : List ℕ) (l : ℕ) where
   pub walk_none : (cs : List Link) → next_of cs ≡ None → Ok tt ≡ each (page_tree L image) l cs
   unfolding next_of
   walk_none [] e = sym (each_none (page_tree L image) l)
   walk_none (x ∷ xs) e = cc
 
-  module _ (cs rest : List Link) (c : Link) (v : Verdict) (e : cs ≡ c ∷ rest) (h : v ≡ check_under (page_tree L image) l c) where
-    parts : each (page_tree L image) l cs ≡ (v then each (page_tree L image) l rest)
-    parts = ap (each (page_tree L image) l) e ∙ each_more (page_tree L image) l c rest ∙ ap (λ (w : Verdict). w then each (page_tree L image) l rest) (sym h)
+  module _ (cs rest : List Link) (c : Link) (e : cs ≡ c ∷ rest) where
+    parts : each (page_tree L image) l cs ≡ (check_under (page_tree L image) l c then each (page_tree L image) l rest)
+    parts = ap (each (page_tree L image) l) e ∙ each_more (page_tree L image) l c rest
 
-    pub walk_refused : (r : Refusal) → v ≡ Err r → v ≡ each (page_tree L image) l cs
-    walk_refused r q = q ∙ sym (parts ∙ ends Err _ _ r q)
+    pub walk_refused : (r : Refusal) → Err r ≡ check_under (page_tree L image) l c → Err r ≡ each (page_tree L image) l cs
+    walk_refused r q = sym (parts ∙ ends Err _ _ r (sym q))
 
-    pub walk_on : v ≡ Ok tt → each (page_tree L image) l rest ≡ each (page_tree L image) l cs
-    walk_on q = sym (parts ∙ goes Err _ _ q)
+    pub walk_on : Ok tt ≡ check_under (page_tree L image) l c → each (page_tree L image) l rest ≡ each (page_tree L image) l cs
+    walk_on q = sym (parts ∙ goes Err _ _ (sym q))
 
 -- a page, and everything under it
-module _ (L : Layout) (image : List ℕ) (l : ℕ) (p : Link) (v : Verdict) (page-is : v ≡ page_fits L image p) where
-  pub page_refused : (r : Refusal) → v ≡ Err r → v ≡ check_under (page_tree L image) l p
-  page_refused r q = q ∙ sym (under_refused (page_tree L image) l p r (test_is L image l p ∙ sym page-is ∙ q))
+module _ (L : Layout) (image : List ℕ) (l : ℕ) (p : Link) where
+  pub page_refused : (r : Refusal) → Err r ≡ page_fits L image p → Err r ≡ check_under (page_tree L image) l p
+  page_refused r e = sym (under_refused (page_tree L image) l p r (test_is L image l p ∙ sym e))
 
   -- nothing stands under a leaf page
-  pub page_alone : l ≡ 0 → v ≡ check_under (page_tree L image) l p
-  page_alone h = rw h (page-is ∙ sym (under_leaf (page_tree L image) p ∙ test_is L image 0 p))
+  pub page_alone : (v : Verdict) → v ≡ page_fits L image p → l ≡ 0 → v ≡ check_under (page_tree L image) l p
+  page_alone v e h = rw h (e ∙ sym (under_leaf (page_tree L image) p ∙ test_is L image 0 p))
 
-  pub page_leaf : l ≡ 0 → v ≡ Ok tt → Ok tt ≡ check_under (page_tree L image) l p
-  page_leaf h q = sym q ∙ page_alone h
-
-  pub page_index : (l ≡ 0 → ⊥) → v ≡ Ok tt → each (page_tree L image) (l - 1) (kids_from L image (l - 1) p 0) ≡ check_under (page_tree L image) l p
-  page_index h q = by l h
+  pub page_index : (l ≡ 0 → ⊥) → Ok tt ≡ page_fits L image p → each (page_tree L image) (l - 1) (kids_from L image (l - 1) p 0) ≡ check_under (page_tree L image) l p
+  page_index h ok = by l h
     where
       by : (l : ℕ) → (l ≡ 0 → ⊥) → each (page_tree L image) (l - 1) (kids_from L image (l - 1) p 0) ≡ check_under (page_tree L image) l p
       by zero h = absurd (h refl)
       by (suc l) h =
           let w : suc l - 1 ≡ l = omega arith in
-          rw (w, all_kids L image l p) (sym (under_index (page_tree L image) l p ∙ goes Err _ _ (test_is L image (suc l) p ∙ sym page-is ∙ q)))
+          rw (w, all_kids L image l p) (sym (under_index (page_tree L image) l p ∙ goes Err _ _ (test_is L image (suc l) p ∙ sym ok)))
 
 -- where a page's offset is not allowed, its level plays no part
 module _ (L : Layout) (image : List ℕ) (p : Link) where
@@ -132,14 +129,14 @@ pub tree_parts : (L : Layout) (image : List ℕ) → tree_fits L image ≡ (head
 unfolding tree_fits tree_rules check_under
 tree_parts L image = rw (header_rules_lem image) (in_order_append (header_rules image) (rules_under (page_tree L image) (root_level L image) (root L image)))
 
-module _ (L : Layout) (image : List ℕ) (v : Verdict) (header_is : v ≡ header_fits image) where
-  pub tree_refused : (r : Refusal) → v ≡ Err r → v ≡ tree_fits L image
-  tree_refused r q = q ∙ sym (tree_parts L image ∙ ends Err _ _ r (sym header_is ∙ q))
+module _ (L : Layout) (image : List ℕ) where
+  pub tree_refused : (r : Refusal) → Err r ≡ header_fits image → Err r ≡ tree_fits L image
+  tree_refused r e = sym (tree_parts L image ∙ ends Err _ _ r (sym e))
 
-  pub tree_on_lem : (p : Link) (l : ℕ) → v ≡ Ok tt → p ≡ root L image
+  pub tree_on_lem : (p : Link) (l : ℕ) → Ok tt ≡ header_fits image → p ≡ root L image
       → (offset_fits image p.offset ≡ true → l ≡ level_of L (page image p.offset)) → check_under (page_tree L image) l p ≡ tree_fits L image
   unfolding root_level
-  tree_on_lem p l q e f =
+  tree_on_lem p l ok e f =
       under_any L image p l (level_of L (page image p.offset)) f
       ∙ ap (λ (x : Link). check_under (page_tree L image) (level_of L (page image x.offset)) x) e
-      ∙ sym (tree_parts L image ∙ goes Err _ _ (sym header_is ∙ q))
+      ∙ sym (tree_parts L image ∙ goes Err _ _ (sym ok))

@@ -9,4 +9,4 @@ unfolding shown found_as
 returns-in_err-check_header g c =
     let a = c.args in
     let e : c.from_residual.result ≡ Err c.in_err-check_header.field-0.0 = search rules in
-    e ∙ ap (λ answer. found_as g.T.TreeEntry.of (shown a.l answer)) (root_refused a.l a.image.now Equal a.key _ c.check_header.ensures _ c.in_err-check_header.was)
+    e ∙ ap (λ answer. found_as g.T.TreeEntry.of (shown a.l answer)) (root_refused a.l a.image.now Equal a.key _ c.in_err-check_header.ensures)

@@ -1,5 +1,5 @@
 use Rattle.std.proofs.Common.{rules, ◌≡◌, Err}
-use mathlib.Core.Path.{refl, sym, ap, ◌∙◌}
+use mathlib.Core.Path.{sym, ap, ◌∙◌}
 use native.Mathlib.Omega.{arith}
 use Rattle.header.proofs.HeaderLaws.{header_length}
 use Rattle.tree.proofs.Walk.{accepted_offset}
@@ -13,7 +13,7 @@ unfolding shown found_as
 returns-in_err-check_header g c =
     let a = c.args in
     let e : c.from_residual.result ≡ Err c.in_err-check_header.field-0.0 = search rules in
-    e ∙ ap (λ answer. found_as g.T.TreeEntry.of (shown a.l answer)) (root_refused a.l a.image.now AtLeast a.from _ c.in_err-check_header.ensures _ refl)
+    e ∙ ap (λ answer. found_as g.T.TreeEntry.of (shown a.l answer)) (root_refused a.l a.image.now AtLeast a.from _ c.in_err-check_header.ensures)
 
 pub root_link-p-requires : goal.root_link-p-requires
 root_link-p-requires g c = (c.requires, header_length _ (sym c.in_ok-check_header.ensures))
@@ -30,4 +30,4 @@ returns g c =
     ∙ ap (found_as g.T.TreeEntry.of)
     (c.seek.ensures
     ∙ ap (shown a.l)
-    (root_on a.l a.image.now AtLeast a.from _ c.in_ok-check_header.ensures _ _ _ refl c.root_link-p.ensures c.as_given.ensures c.stated_level-level.ensures.0))
+    (root_on a.l a.image.now AtLeast a.from _ _ _ c.in_ok-check_header.ensures c.root_link-p.ensures c.as_given.ensures c.stated_level-level.ensures.0))

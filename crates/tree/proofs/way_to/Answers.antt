@@ -1,5 +1,5 @@
 use Rattle.std.proofs.Common.{rules, ◌≡◌, Err}
-use mathlib.Core.Path.{refl, sym, ap, ◌∙◌}
+use mathlib.Core.Path.{sym, ap, ◌∙◌}
 use native.Mathlib.Omega.{arith}
 use Rattle.header.proofs.HeaderLaws.{header_length}
 use Rattle.keys.specs.declared.Sought.TheVariants.{Equal}
@@ -49,6 +49,6 @@ returns c =
     let sought = c.compared-sought.ensures in (
       ap (at_end a.l a.image.now c.way_from.result) (sym sought)
           ∙ c.way_from.ensures.0
-          ∙ root_on a.l a.image.now Equal a.key _ (sym (start_header a.l a.image.now accepted)) _ _ _ refl p.ensures sought level.ensures.0,
+          ∙ root_on a.l a.image.now Equal a.key _ _ _ (sym (start_header a.l a.image.now accepted)) p.ensures sought level.ensures.0,
       leads_from_root a.l a.image.now _ _ _ p.ensures (sym (level.ensures.0 (accepted_offset a.l a.image.now p.result ok))) c.way_from.ensures.1,
     )
