@@ -13,8 +13,6 @@ use Rattle.edition.specs.declared.Layout.{Layout}
 use Rattle.tree.specs.Answers.{found_as, shown, as_node, as_block}
 use Rattle.block.proofs.TriedLaws.{sized_verdict}
 use Rattle.node.proofs.TriedLaws.{read_verdict}
-use Rattle.property.specs.declared.Property.TheVariants as property
-use Rattle.cells.specs.declared.Cell.TheVariants as cell
 use Rattle.pst.specs.Meaning.{Meaning, refusal_means, verdict_means, header_means, node_means, block_means, sized_means, data_means, span_means, property_means, table_means, column_means, count_means, cell_means, row_means, cells_means}
 use Rattle.pst.specs.Demands.{Told}
 use Rattle.pst.proofs.Injective.{verdict_injective, header_injective, node_injective, block_injective, sized_injective, data_injective, span_injective, property_injective, table_injective, column_injective, count_injective, cell_injective, row_injective, cells_injective}

@@ -23,7 +23,7 @@ use Rattle.header.proofs.EditionLaws.{fair_nodes, fair_blocks}
 use Rattle.header.proofs.HeaderLaws.{edition_agrees}
 use Rattle.tree.specs.Tree.{tree_fits, scan}
 use Rattle.tree.specs.Lookup.{lookup, next, path}
-use Rattle.tree.specs.Answers.{found_as, column_of, fields_of, shown, as_node, as_block, node_of, block_of, next_node_of, next_block_of}
+use Rattle.tree.specs.Answers.{found_as, column_of, fields_of, shown, node_of, block_of, next_node_of, next_block_of}
 use Rattle.tree.proofs.Demand3.{demand3}
 use Rattle.tree.proofs.InOrder.{path_counted, in_order_lem}
 use Rattle.tree.proofs.OffPath.{off_path, off_read}
