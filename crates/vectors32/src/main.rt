@@ -101,17 +101,47 @@ fn page_lines(
 
 // The offsets of the leaf pages are known by their signatures alone.
 fn real_pages(rt: &(impl Files + Print + Eprint)) -> io::Result<()> {
-    page_lines(rt, "32-bit BBT root", "real_bbt_root_32bit.hex", 0x5400, 0x21EB4)?;
-    page_lines(rt, "32-bit BBT leaf", "real_bbt_leaf_32bit.hex", 0xD400, 0x1675A)?;
-    page_lines(rt, "32-bit NBT root", "real_nbt_root_32bit.hex", 0xC7E00, 0x21EBC)?;
-    page_lines(rt, "32-bit NBT leaf", "real_nbt_leaf_32bit.hex", 0xC8400, 0x21EAE)
+    page_lines(
+        rt,
+        "32-bit BBT root",
+        "real_bbt_root_32bit.hex",
+        0x5400,
+        0x21EB4,
+    )?;
+    page_lines(
+        rt,
+        "32-bit BBT leaf",
+        "real_bbt_leaf_32bit.hex",
+        0xD400,
+        0x1675A,
+    )?;
+    page_lines(
+        rt,
+        "32-bit NBT root",
+        "real_nbt_root_32bit.hex",
+        0xC7E00,
+        0x21EBC,
+    )?;
+    page_lines(
+        rt,
+        "32-bit NBT leaf",
+        "real_nbt_leaf_32bit.hex",
+        0xC8400,
+        0x21EAE,
+    )
 }
 
 // The header, sealed anew, with the two root pages, which lead to pages that are not in the image; and with
 // the two leaf pages in their place. Those of the block tree stand at their true offsets. Those of the node
 // tree would stand behind what the programs work on: they stand lower, signed for where they stand.
 fn real_images(rt: &(impl Files + Print + Eprint)) -> io::Result<()> {
-    trees::image_lines(rt, "roots", "real_roots_32bit.img", &NODES_AT_ROOT, &BLOCKS_AT_ROOT)?;
+    trees::image_lines(
+        rt,
+        "roots",
+        "real_roots_32bit.img",
+        &NODES_AT_ROOT,
+        &BLOCKS_AT_ROOT,
+    )?;
     trees::image_lines(rt, "leaves", "real_leaves_32bit.img", &NODES, &BLOCKS)
 }
 
