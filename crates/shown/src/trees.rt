@@ -90,6 +90,14 @@ impl<T: Entry> fmt::Display for FoundWords<T> {
     }
 }
 
+// The number of the entry found.
+pub fn number_found<T: Entry + Copy>(found: Result<Found<T>, Refusal>) -> Option<u64> {
+    match found {
+        Ok(Found::Entry(entry, _)) => Some(entry.number()),
+        _ => None,
+    }
+}
+
 // Goes through a tree from 0 on, each time from one above the number found: at most 60 entries, which is more
 // than a leaf page has. Each answer is handed on, the last one too, behind the number that was asked for.
 pub fn go_through<
@@ -104,10 +112,10 @@ pub fn go_through<
     for _ in 0..60 {
         let found = next(from);
         lines(from, found)?;
-        let Ok(Found::Entry(entry, _)) = found else {
+        let Some(number) = number_found(found) else {
             return Ok(());
         };
-        let Some(above) = said::above(entry.number(), T::LAST) else {
+        let Some(above) = said::above(number, T::LAST) else {
             return Ok(());
         };
         from = above;
