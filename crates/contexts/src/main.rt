@@ -115,31 +115,33 @@ const BOUND_TABLES: [(&str, Option<&str>); 6] = [
     ),
 ];
 
-fn context_lines<'a>(
-    rt: &impl Print,
-    path: &str,
-    block: &'a [u8],
+// A table's heap, and its block of rows, which is empty where there is none.
+#[derive(Clone, Copy)]
+struct Context<'a> {
+    heap: &'a [u8],
     rows: &'a [u8],
-) -> io::Result<()> {
-    let name = path.strip_suffix(".heap").unwrap_or(path);
-    println!(rt; "{name}: {} bytes, rows {} bytes", block.len(), rows.len())?;
-    tables::table_lines(rt, block, rows)?;
-    values::cell_lines(rt, block, rows)?;
-    rows::read_lines(rt, block, rows)?;
-    rows::find_lines(rt, block, rows)
 }
 
-// A heap, with its block of rows or without one.
+fn context_lines(rt: &impl Print, path: &str, context: Context<'_>) -> io::Result<()> {
+    let Context { heap, rows } = context;
+    let name = path.strip_suffix(".heap").unwrap_or(path);
+    println!(rt; "{name}: {} bytes, rows {} bytes", heap.len(), rows.len())?;
+    tables::table_lines(rt, context)?;
+    values::cell_lines(rt, context)?;
+    rows::read_lines(rt, context)?;
+    rows::find_lines(rt, context)
+}
+
 fn heap_lines(
     rt: &(impl Files + Print + Eprint),
     path: &str,
     rows_path: Option<&str>,
 ) -> io::Result<()> {
-    said::with_file(rt, path, |block| match rows_path {
-        Some(rows_path) => {
-            said::with_file(rt, rows_path, |rows| context_lines(rt, path, block, rows))
-        }
-        None => context_lines(rt, path, block, &[]),
+    said::with_file(rt, path, |heap| match rows_path {
+        Some(rows_path) => said::with_file(rt, rows_path, |rows| {
+            context_lines(rt, path, Context { heap, rows })
+        }),
+        None => context_lines(rt, path, Context { heap, rows: &[] }),
     })
 }
 

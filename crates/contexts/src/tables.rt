@@ -1,4 +1,5 @@
 // What the table says of itself, its first columns, and how many rows it has.
+use crate::Context;
 use cells::Counted;
 use said::RefusedWith;
 use std::{fmt, io};
@@ -21,8 +22,8 @@ impl fmt::Display for TableWords {
     }
 }
 
-fn table_line(rt: &impl Print, block: &[u8]) -> io::Result<()> {
-    match pst::table(block) {
+fn table_line(rt: &impl Print, heap: &[u8]) -> io::Result<()> {
+    match pst::table(heap) {
         TableAnswer::Says(table) => println!(rt; "table: {}", TableWords(table)),
         TableAnswer::Refused(wrong) => println!(rt; "table: {}", RefusedWith(wrong)),
     }
@@ -40,10 +41,10 @@ fn say_column(rt: &impl Print, answer: ColumnAnswer) -> io::Result<()> {
 }
 
 // Eight columns, or as far as the first that is absent or refused.
-fn column_lines(rt: &impl Print, block: &[u8]) -> io::Result<()> {
+fn column_lines(rt: &impl Print, heap: &[u8]) -> io::Result<()> {
     for index in 0..8 {
         print!(rt; "column {index}: ")?;
-        let answer = pst::column(block, index);
+        let answer = pst::column(heap, index);
         say_column(rt, answer)?;
         let ColumnAnswer::Found(_) = answer else {
             return Ok(());
@@ -52,15 +53,15 @@ fn column_lines(rt: &impl Print, block: &[u8]) -> io::Result<()> {
     Ok(())
 }
 
-fn count_line<'a>(rt: &impl Print, block: &'a [u8], rows: &'a [u8]) -> io::Result<()> {
-    match pst::count_rows(block, rows) {
+fn count_line(rt: &impl Print, context: Context<'_>) -> io::Result<()> {
+    match pst::count_rows(context.heap, context.rows) {
         Counted::Rows(count) => println!(rt; "count_rows: {count}"),
         Counted::Refused(wrong) => println!(rt; "count_rows: {}", RefusedWith(wrong)),
     }
 }
 
-pub fn table_lines<'a>(rt: &impl Print, block: &'a [u8], rows: &'a [u8]) -> io::Result<()> {
-    table_line(rt, block)?;
-    column_lines(rt, block)?;
-    count_line(rt, block, rows)
+pub fn table_lines(rt: &impl Print, context: Context<'_>) -> io::Result<()> {
+    table_line(rt, context.heap)?;
+    column_lines(rt, context.heap)?;
+    count_line(rt, context)
 }
