@@ -1,5 +1,6 @@
 // The header's answer, and checksums and signatures of headers, pages and blocks, beside those that stand in
 // their bytes.
+use header::Reference;
 use said::{Answer, Refused};
 use std::io;
 use std::rt::Files;
@@ -65,19 +66,15 @@ pub fn checksum_line(
 }
 
 // The signature of an offset and a number, without the line's end.
-fn say_signature(rt: &impl Print, section: &str, offset: u64, number: u64) -> io::Result<u16> {
+fn say_signature(rt: &impl Print, section: &str, reference: Reference) -> io::Result<u16> {
+    let Reference { number, offset } = reference;
     let signed = pst::signature(offset, number);
     print!(rt; "{section} signature of {offset:x} and {number:x}: {signed:04x}")?;
     Ok(signed)
 }
 
-pub fn bare_signature_line(
-    rt: &impl Print,
-    section: &str,
-    offset: u64,
-    number: u64,
-) -> io::Result<()> {
-    say_signature(rt, section, offset, number)?;
+pub fn bare_signature_line(rt: &impl Print, section: &str, reference: Reference) -> io::Result<()> {
+    say_signature(rt, section, reference)?;
     println!(rt)
 }
 
@@ -87,13 +84,12 @@ pub fn signature_line(
     section: &str,
     bytes: &[u8],
     place: usize,
-    offset: u64,
-    number: u64,
+    reference: Reference,
 ) -> io::Result<()> {
     let Some(stated) = two_at(bytes, place) else {
         return Ok(());
     };
-    let signed = say_signature(rt, section, offset, number)?;
+    let signed = say_signature(rt, section, reference)?;
     println!(rt; "{}", listed::whether(signed == stated))
 }
 
@@ -104,15 +100,14 @@ pub fn page_lines(
     name: &str,
     end: usize,
     checksum: usize,
-    offset: u64,
-    number: u64,
+    reference: Reference,
 ) -> io::Result<()> {
     let Some(signature) = end.checked_add(2) else {
         return Ok(());
     };
     listed::with_hex(rt, name, |page| {
         checksum_line(rt, section, page, end, checksum)?;
-        signature_line(rt, section, page, signature, offset, number)
+        signature_line(rt, section, page, signature, reference)
     })
 }
 

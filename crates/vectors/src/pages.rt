@@ -1,5 +1,6 @@
 // 003, 3.2 to 3.7 and 3.13: what the header says, and the checksums, signatures and rooms of the pages
 // and blocks that stand there. Pages of different states of a file are not put together as one tree.
+use header::Reference;
 use shown::pages;
 use std::io;
 use std::rt::Files;
@@ -18,14 +19,13 @@ fn trailer_lines(
     section: &str,
     room: &[u8],
     data: usize,
-    offset: u64,
-    number: u64,
+    reference: Reference,
 ) -> io::Result<()> {
     let Some(trailer) = room.len().checked_sub(16) else {
         return Ok(());
     };
     pages::checksum_line(rt, section, room, data, trailer + 4)?;
-    pages::signature_line(rt, section, room, trailer + 2, offset, number)
+    pages::signature_line(rt, section, room, trailer + 2, reference)
 }
 
 fn block_lines(
@@ -33,12 +33,11 @@ fn block_lines(
     section: &str,
     name: &str,
     data: u32,
-    offset: u64,
-    number: u64,
+    reference: Reference,
 ) -> io::Result<()> {
     pages::room_line(rt, section, data, pst::room)?;
     listed::with_hex(rt, name, |room| {
-        trailer_lines(rt, section, room, data as usize, offset, number)
+        trailer_lines(rt, section, room, data as usize, reference)
     })
 }
 
@@ -49,12 +48,36 @@ pub fn worked_header(rt: &(impl Files + Print + Eprint)) -> io::Result<()> {
 }
 
 pub fn worked_pages(rt: &(impl Files + Print + Eprint)) -> io::Result<()> {
-    pages::page_lines(rt, "3.3", "3.3_nbt_index_page.hex", 496, 500, 0x8200, 0x206)?;
-    pages::page_lines(rt, "3.4", "3.4_nbt_leaf_page.hex", 496, 500, 0x7000, 0x6B)?;
-    pages::bare_signature_line(rt, "3.5", 0x900200, 0x246)?;
-    block_lines(rt, "3.6", "3.6_xblock.hex", 432, 0x5A6600, 0x162)?;
-    block_lines(rt, "3.7", "3.7_slblock.hex", 32, 0x994D40, 0x1386)?;
+    let index = Reference {
+        number: 0x206,
+        offset: 0x8200,
+    };
+    pages::page_lines(rt, "3.3", "3.3_nbt_index_page.hex", 496, 500, index)?;
+    let leaf = Reference {
+        number: 0x6B,
+        offset: 0x7000,
+    };
+    pages::page_lines(rt, "3.4", "3.4_nbt_leaf_page.hex", 496, 500, leaf)?;
+    let block_page = Reference {
+        number: 0x246,
+        offset: 0x900200,
+    };
+    pages::bare_signature_line(rt, "3.5", block_page)?;
+    let xblock = Reference {
+        number: 0x162,
+        offset: 0x5A6600,
+    };
+    block_lines(rt, "3.6", "3.6_xblock.hex", 432, xblock)?;
+    let slblock = Reference {
+        number: 0x1386,
+        offset: 0x994D40,
+    };
+    block_lines(rt, "3.7", "3.7_slblock.hex", 32, slblock)?;
     pages::room_line(rt, "3.13", 4092, pst::room)?;
     pages::room_line(rt, "3.13", 1272, pst::room)?;
-    pages::bare_signature_line(rt, "3.13", 0x908A00, 0x1518)
+    let block = Reference {
+        number: 0x1518,
+        offset: 0x908A00,
+    };
+    pages::bare_signature_line(rt, "3.13", block)
 }

@@ -2,6 +2,7 @@
 // the call and the answer; where the bytes hold the answer too, whether it is that one.
 #![tactic(auto)]
 
+use header::Reference;
 use shown::{pages, trees};
 use std::io;
 use std::rt::Files;
@@ -96,7 +97,8 @@ fn page_lines(
     offset: u64,
     number: u64,
 ) -> io::Result<()> {
-    pages::page_lines(rt, section, name, 500, 508, offset, number)
+    let reference = Reference { number, offset };
+    pages::page_lines(rt, section, name, 500, 508, reference)
 }
 
 // The offsets of the leaf pages are known by their signatures alone.
