@@ -1,29 +1,22 @@
-// Answers in words, without the line's end.
-use header::HeaderAnswer;
-use refusal::Verdict;
+// Answers in words, with all that a refusal says, and the calls that take the image alone.
+use refusal::{Refusal, Verdict};
+use said::{Answer, RefusedWith};
+use shown::trees::{Entry, Found, FoundWords};
 use std::io;
 
-pub fn say_verdict(rt: &impl Print, verdict: Verdict) -> io::Result<()> {
-    match verdict {
-        Verdict::Refused(wrong) => said::say_refusal(rt, wrong),
-        Verdict::Accepted => said::say(rt, b"accepted"),
-    }
+pub fn verdict(verdict: Verdict) -> Answer<&'static str, RefusedWith> {
+    Answer(shown::verdict_words(verdict).map_err(RefusedWith))
 }
 
-fn say_header(rt: &impl Print, answer: HeaderAnswer) -> io::Result<()> {
-    match answer {
-        HeaderAnswer::Refused(wrong) => said::say_refusal(rt, wrong),
-        HeaderAnswer::Says(header) => shown::say_header(rt, header),
-    }
+pub fn found<T: Entry + Copy>(
+    found: Result<Found<T>, Refusal>,
+) -> Answer<FoundWords<T>, RefusedWith> {
+    Answer(found.map(FoundWords).map_err(RefusedWith))
 }
 
-// The calls that take the image alone.
 pub fn whole_lines(rt: &impl Print, image: &[u8]) -> io::Result<()> {
-    said::say(rt, b"header: ")?;
-    say_header(rt, pst::header(image))?;
-    said::say(rt, b"\ncheck_nodes: ")?;
-    say_verdict(rt, pst::check_nodes(image))?;
-    said::say(rt, b"\ncheck_blocks: ")?;
-    say_verdict(rt, pst::check_blocks(image))?;
-    said::say(rt, b"\n")
+    let header = shown::header_words(pst::header(image)).map_err(RefusedWith);
+    println!(rt; "header: {}", Answer(header))?;
+    println!(rt; "check_nodes: {}", verdict(pst::check_nodes(image)))?;
+    println!(rt; "check_blocks: {}", verdict(pst::check_blocks(image)))
 }

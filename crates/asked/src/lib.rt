@@ -10,22 +10,18 @@ mod text;
 
 use std::io;
 use std::rt::Files;
+use text::Summed;
+
+fn all_lines(rt: &impl Print, name: &str, image: &[u8]) -> io::Result<()> {
+    let mut out = [0u8; 65536];
+    println!(rt; "{name}: {}", Summed(image))?;
+    answers::whole_lines(rt, image)?;
+    nodes::list_nodes(rt, image, &mut out)?;
+    lists::list_lines(rt, image)?;
+    blocks::list_blocks(rt, image, &mut out)
+}
 
 // An image in a file.
-pub fn image_lines(rt: &(impl Files + Print + Eprint), name: &[u8]) -> io::Result<()> {
-    let mut buffer = [0u8; 65536];
-    let file = said::load(rt, name, &mut buffer)?;
-    if !file.whole {
-        return Ok(());
-    }
-    let n = file.size;
-    let mut out = [0u8; 65536];
-    said::say(rt, name)?;
-    said::say(rt, b": ")?;
-    text::say_bytes(rt, &buffer[..n])?;
-    said::say(rt, b"\n")?;
-    answers::whole_lines(rt, &buffer[..n])?;
-    nodes::list_nodes(rt, &buffer[..n], &mut out)?;
-    lists::list_lines(rt, &buffer[..n])?;
-    blocks::list_blocks(rt, &buffer[..n], &mut out)
+pub fn image_lines(rt: &(impl Files + Print + Eprint), name: &str) -> io::Result<()> {
+    said::with_file(rt, name, |image| all_lines(rt, name, image))
 }

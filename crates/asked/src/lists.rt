@@ -1,22 +1,19 @@
 // The first nodes as a list, looked up in one call.
 ghost use Rattle.std.specs.Prelude.{◌≤◌, length};
-ghost use Rattle.std.specs.Counts.{IsPrefixLen};
 
 use crate::answers;
+use shown::trees::{Found, found_node};
 use std::io;
-use tree::FoundNode;
 
 // One call, and the whole area after it.
 fn list_line(rt: &impl Print, image: &[u8], nodes: &[u64], area: &mut [u64]) -> io::Result<()> {
-    let words = area.len() as u64;
-    said::say_decimal(rt, b"find_nodes of ", nodes.len() as u64)?;
-    said::say_decimal(rt, b" in ", words)?;
-    said::say(rt, b" words: ")?;
-    answers::say_verdict(rt, pst::find_nodes(image, nodes, area))?;
-    said::say_decimal(rt, b"; area of ", words)?;
-    said::say(rt, b" words, checksum ")?;
-    print!(rt; "{:08x}", said::sum_of(area))?;
-    said::say(rt, b"\n")
+    let words = area.len();
+    print!(rt; "find_nodes of {} in {words} words: ", nodes.len())?;
+    print!(rt; "{}", answers::verdict(pst::find_nodes(image, nodes, area)))?;
+    println!(rt;
+        "; area of {words} words, checksum {:08x}",
+        said::sum_of(area)
+    )
 }
 
 // The same with a fresh area of so many words.
@@ -27,50 +24,34 @@ fn fresh_line(rt: &impl Print, image: &[u8], nodes: &[u64], words: usize) -> io:
     list_line(rt, image, nodes, &mut area[..words])
 }
 
-// The first nodes, twelve at most: how many there are.
+// The first nodes, as many as the list has places: how many there are.
 fn first_nodes(image: &[u8], list: &mut [u64]) -> usize
-    requires { 12 ≤ length list.old }
-    ensures { result ≤ 12 }
+    ensures { result ≤ length list.old }
 {
     let mut from: u64 = 0;
-    let mut n: usize = 0;
-    while n < 12 {
-        let found = pst::next_node(image, from);
-        let FoundNode::Found(node, _) = found else {
-            return n;
+    for (count, place) in list.iter_mut().enumerate() {
+        let Ok(Found::Entry(node, _)) = found_node(pst::next_node(image, from)) else {
+            return count;
         };
-        list[n] = node.node;
-        n += 1;
-        from = said::above(node.node, 0xFFFF_FFFF);
-        if from == 0 {
-            return n;
-        }
+        *place = node.node;
+        let Some(above) = said::above(node.node, 0xFFFF_FFFF) else {
+            return count + 1;
+        };
+        from = above;
     }
-    n
+    list.len()
 }
 
-fn at_least_one(n: usize) -> usize
-    requires { n ≤ 12 }
-    ensures { result ≤ 12 }
+// The first nodes, twelve at most, or 0 where there is none; the first once more, and with another high half;
+// and the highest number.
+fn full_list<'a>(image: &[u8], list: &'a mut [u64; 15]) -> &'a [u64]
+    ensures { length result.now ≤ 15 }
 {
-    if n == 0 {
-        return 1;
-    }
-    n
-}
-
-// The first nodes, or 0 where there is none; the first once more, and with another high half; and the
-// highest number: how many these are.
-fn full_list(image: &[u8], list: &mut [u64]) -> usize
-    requires { 15 ≤ length list.old }
-    ensures { IsPrefixLen result list.new × (result ≤ 15) }
-{
-    let n = at_least_one(first_nodes(image, list));
+    let count = first_nodes(image, &mut list[..12]).max(1);
     let first = list[0];
-    list[n] = first;
-    list[n + 1] = first % 4294967296 + 4294967296;
-    list[n + 2] = 0xFFFF_FFFF;
-    n + 3
+    let others = [first, first & 0xFFFF_FFFF | 0x1_0000_0000, 0xFFFF_FFFF];
+    list[count..count + 3].copy_from_slice(&others);
+    &list[..count + 3]
 }
 
 // An area of just these places, one word short, and with words to spare; then no list.
@@ -83,11 +64,9 @@ fn area_lines(rt: &impl Print, image: &[u8], nodes: &[u64]) -> io::Result<()>
         fresh_line(rt, image, nodes, words - 1)?;
     }
     fresh_line(rt, image, nodes, words + 5)?;
-    fresh_line(rt, image, &nodes[..0], 5)
+    fresh_line(rt, image, &[], 5)
 }
 
 pub fn list_lines(rt: &impl Print, image: &[u8]) -> io::Result<()> {
-    let mut list = [0u64; 15];
-    let count = full_list(image, &mut list);
-    area_lines(rt, image, &list[..count])
+    area_lines(rt, image, full_list(image, &mut [0; 15]))
 }

@@ -1,73 +1,67 @@
 // What the table says of itself, its first columns, and how many rows it has.
-use crate::answers;
+use crate::Context;
 use cells::Counted;
-use std::io;
-use table::{ColumnAnswer, Named, TableAnswer};
+use said::RefusedWith;
+use std::{fmt, io};
+use table::{ColumnAnswer, Named, Table, TableAnswer};
 
-fn say_rows(rt: &impl Print, rows: Named) -> io::Result<()> {
-    match rows {
-        Named::Nothing => said::say(rt, b", rows none"),
-        Named::Item(item) => answers::say_four_bytes(rt, b", rows item ", item),
-        Named::Subnode(subnode) => answers::say_four_bytes(rt, b", rows subnode ", subnode),
+// What a table says of itself.
+#[derive(Clone, Copy)]
+struct TableWords(Table);
+
+impl fmt::Display for TableWords {
+    fn fmt<W: fmt::Write>(&self, f: &mut fmt::Formatter<W>) -> fmt::Result {
+        let TableWords(table) = *self;
+        write!(f, "columns {}, row size {}", table.columns, table.size)?;
+        write!(f, ", existence {}, rows ", table.existence)?;
+        match table.rows {
+            Named::Nothing => write!(f, "none"),
+            Named::Item(item) => write!(f, "item {item:08x}"),
+            Named::Subnode(subnode) => write!(f, "subnode {subnode:08x}"),
+        }
     }
 }
 
-fn table_line(rt: &impl Print, block: &[u8]) -> io::Result<()> {
-    said::say(rt, b"table: ")?;
-    match pst::table(block) {
-        TableAnswer::Says(t) => {
-            let rows = t.rows;
-            said::say_decimal(rt, b"columns ", t.columns)?;
-            said::say_decimal(rt, b", row size ", t.size)?;
-            said::say_decimal(rt, b", existence ", t.existence)?;
-            say_rows(rt, rows)?;
-        }
-        TableAnswer::Refused(wrong) => said::say_refusal(rt, wrong)?,
+fn table_line(rt: &impl Print, heap: &[u8]) -> io::Result<()> {
+    match pst::table(heap) {
+        TableAnswer::Says(table) => println!(rt; "table: {}", TableWords(table)),
+        TableAnswer::Refused(wrong) => println!(rt; "table: {}", RefusedWith(wrong)),
     }
-    said::say(rt, b"\n")
 }
 
 fn say_column(rt: &impl Print, answer: ColumnAnswer) -> io::Result<()> {
     match answer {
-        ColumnAnswer::Found(c) => {
-            answers::say_four_bytes(rt, b"tag ", c.tag)?;
-            said::say_decimal(rt, b", offset ", c.offset as u64)?;
-            said::say_decimal(rt, b", width ", c.width as u64)?;
-            said::say_decimal(rt, b", bit ", c.bit as u64)?;
+        ColumnAnswer::Found(column) => {
+            print!(rt; "tag {:08x}, offset {}", column.tag, column.offset)?;
+            println!(rt; ", width {}, bit {}", column.width, column.bit)
         }
-        ColumnAnswer::Absent => said::say(rt, b"absent")?,
-        ColumnAnswer::Refused(wrong) => said::say_refusal(rt, wrong)?,
+        ColumnAnswer::Absent => println!(rt; "absent"),
+        ColumnAnswer::Refused(wrong) => println!(rt; "{}", RefusedWith(wrong)),
     }
-    said::say(rt, b"\n")
 }
 
 // Eight columns, or as far as the first that is absent or refused.
-fn column_lines(rt: &impl Print, block: &[u8]) -> io::Result<()> {
-    let mut index: u32 = 0;
-    while index < 8 {
-        said::say_decimal(rt, b"column ", index as u64)?;
-        said::say(rt, b": ")?;
-        let answer = pst::column(block, index);
+fn column_lines(rt: &impl Print, heap: &[u8]) -> io::Result<()> {
+    for index in 0..8 {
+        print!(rt; "column {index}: ")?;
+        let answer = pst::column(heap, index);
         say_column(rt, answer)?;
         let ColumnAnswer::Found(_) = answer else {
             return Ok(());
         };
-        index += 1;
     }
     Ok(())
 }
 
-fn count_line<'a>(rt: &impl Print, block: &'a [u8], rows: &'a [u8]) -> io::Result<()> {
-    said::say(rt, b"count_rows: ")?;
-    match pst::count_rows(block, rows) {
-        Counted::Rows(count) => said::say_decimal(rt, b"", count)?,
-        Counted::Refused(wrong) => said::say_refusal(rt, wrong)?,
+fn count_line(rt: &impl Print, context: Context<'_>) -> io::Result<()> {
+    match pst::count_rows(context.heap, context.rows) {
+        Counted::Rows(count) => println!(rt; "count_rows: {count}"),
+        Counted::Refused(wrong) => println!(rt; "count_rows: {}", RefusedWith(wrong)),
     }
-    said::say(rt, b"\n")
 }
 
-pub fn table_lines<'a>(rt: &impl Print, block: &'a [u8], rows: &'a [u8]) -> io::Result<()> {
-    table_line(rt, block)?;
-    column_lines(rt, block)?;
-    count_line(rt, block, rows)
+pub fn table_lines(rt: &impl Print, context: Context<'_>) -> io::Result<()> {
+    table_line(rt, context.heap)?;
+    column_lines(rt, context.heap)?;
+    count_line(rt, context)
 }

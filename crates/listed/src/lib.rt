@@ -1,161 +1,144 @@
-// Files of hexadecimal text that list what is expected, and lines of output that say whether it is so.
+// Files of hexadecimal text that list what is expected, and words that say whether it is so.
 #![tactic(auto)]
 
-ghost use Rattle.std.specs.Prelude.{◌≡◌, ◌≤◌, ◌<◌, length, IfOk, OnErr};
 ghost use Rattle.std.specs.Counts.{IsPrefixLen};
+ghost use Rattle.std.specs.Iterator.{at_most};
+ghost use Rattle.std.specs.Prelude.{◌≡◌, ◌≤◌, length, IfOk, IfSome, OnErr};
 
-use said::Loaded;
-use std::io;
 use std::rt::Files;
+use std::{fmt, io};
 
-// What a hexadecimal digit in lower case stands for; 16 for anything else.
-fn digit(character: u8) -> u8
-    ensures { result ≤ 16 }
-{
-    if character < b'0' {
-        return 16;
+// What a hexadecimal digit in lower case stands for.
+fn digit(character: u8) -> Option<u8> {
+    match character {
+        b'0'..=b'9' => Some(character - b'0'),
+        b'a'..=b'f' => Some(character - b'a' + 10),
+        _ => None,
     }
-    if character <= b'9' {
-        return character - b'0';
-    }
-    if character < b'a' {
-        return 16;
-    }
-    if character <= b'f' {
-        return character - b'a' + 10;
-    }
-    16
 }
 
-// The bytes that pairs of digits stand for, at the front of `out`; what is no digit is passed over.
+// The bytes that pairs of digits stand for, at the front of `out`: how many. What is no digit is passed over.
 pub fn unhex(text: &[u8], out: &mut [u8]) -> usize
     ensures { IsPrefixLen result out.new }
 {
-    let mut n: usize = 0;
-    let mut i: usize = 0;
-    while i < text.len() {
-        let high = digit(text[i]);
-        i += 1;
-        if i == text.len() {
-            return n;
-        }
-        if n == out.len() {
-            return n;
-        }
-        if high < 16 {
-            out[n] = high * 16 + digit(text[i]) % 16;
-            n += 1;
-            i += 1;
-        }
+    let mut digits = text.iter().filter_map(|character| digit(*character));
+    for (count, byte) in out.iter_mut().enumerate() {
+        let (Some(high), Some(low)) = (digits.next(), digits.next()) else {
+            return count;
+        };
+        *byte = high << 4 | low;
     }
-    n
+    out.len()
 }
 
-// The bytes that a file of digits stands for, at the front of `out`.
+// The bytes that a file of digits stands for, at the front of `out`: how many.
 pub fn load_hex(
     rt: &(impl Files + Print + Eprint),
-    name: &[u8],
+    name: &str,
     out: &mut [u8],
-) -> io::Result<Loaded>
-    ensures loaded { IfOk result (λ loaded. IsPrefixLen loaded.size out.new) }
+) -> io::Result<Option<usize>>
+    ensures loaded { IfOk result (λ loaded. IfSome loaded (λ size. IsPrefixLen size out.new)) }
     ensures unwritten { OnErr result (out.new ≡ out.old) }
 {
     let mut letters = [0u8; 4096];
-    let file = said::load(rt, name, &mut letters)?;
-    let n = file.size;
-    let size = unhex(&letters[..n], out);
-    Ok(Loaded {
-        whole: file.whole,
-        size,
-    })
+    let Some(size) = said::load(rt, name, &mut letters)? else {
+        return Ok(None);
+    };
+    Ok(Some(unhex(&letters[..size], out)))
+}
+
+// Hands on the bytes that a file of digits stands for; where it is not read, why not is said, and nothing is
+// handed on.
+pub fn with_hex<F: FnOnce(&[u8]) -> io::Result<()>>(
+    rt: &(impl Files + Print + Eprint),
+    name: &str,
+    lines: F,
+) -> io::Result<()>
+    requires { F.IsAlwaysCallable lines }
+{
+    let mut bytes = [0u8; 2048];
+    match load_hex(rt, name, &mut bytes)? {
+        Some(size) => lines(&bytes[..size]),
+        None => Ok(()),
+    }
 }
 
 fn is_blank(character: u8) -> bool {
-    (character == b' ') | (character == b'\n')
+    matches!(character, b' ' | b'\n')
 }
 
-// Where the next word starts: blanks and lines that begin with '#' are passed over.
-pub fn word_start(text: &[u8], from: usize) -> usize
-    requires { from ≤ length text.now }
-    ensures { result ≤ length text.now }
+// The text from its next word on: blanks and lines that begin with '#' are passed over.
+fn from_word(text: &[u8]) -> &[u8]
+    ensures { length result.now ≤ length text.now }
 {
-    let mut i = from;
     let mut in_comment = false;
-    while i < text.len() {
-        let character = text[i];
+    for (start, character) in text.iter().enumerate() {
         if in_comment {
-            in_comment = character != b'\n';
-        } else if character == b'#' {
+            in_comment = *character != b'\n';
+        } else if *character == b'#' {
             in_comment = true;
-        } else if !is_blank(character) {
-            return i;
+        } else if !is_blank(*character) {
+            return &text[start..];
         }
-        i += 1;
     }
-    i
+    &text[text.len()..]
 }
 
-// Where the word ends that starts there.
-pub fn word_end(text: &[u8], from: usize) -> usize
-    requires { from ≤ length text.now }
-    ensures { (from ≤ result) × (result ≤ length text.now) }
-{
-    let mut i = from;
-    while i < text.len() {
-        if is_blank(text[i]) {
-            return i;
-        }
-        i += 1;
-    }
-    i
-}
-
-// A word that was read: where it ends in the text, and how many bytes it stands for.
+// The words of a text, behind which blanks stand.
 #[derive(Clone, Copy)]
-pub struct Word {
-    pub end: usize,
-    pub size: usize,
+pub struct Words<'a> {
+    rest: &'a [u8],
 }
 
-pub fn next_word(letters: &[u8], from: usize, out: &mut [u8]) -> Word
-    requires { from ≤ length letters.now }
-    ensures { (result.end ≤ length letters.now) × IsPrefixLen result.size out.new }
-{
-    let start = word_start(letters, from);
-    let end = word_end(letters, start);
-    let size = unhex(&letters[start..end], out);
-    Word { end, size }
-}
-
-fn wide(byte: u8) -> u64
-    ensures { result < 256 }
-{
-    byte as u64
-}
-
-// The number that four bytes make, the highest first, as it is written.
-pub fn written(bytes: [u8; 4]) -> u64 {
-    (wide(bytes[0]) * 256 + wide(bytes[1])) * 65536 + wide(bytes[2]) * 256 + wide(bytes[3])
-}
-
-fn say_byte(rt: &impl Print, byte: u8) -> io::Result<()> {
-    print!(rt; "{byte:02x}")
-}
-
-pub fn say_bytes(rt: &impl Print, bytes: &[u8]) -> io::Result<()> {
-    let mut i: usize = 0;
-    while i < bytes.len() {
-        say_byte(rt, bytes[i])?;
-        i += 1;
+impl<'a> Words<'a> {
+    pub fn new(text: &'a [u8]) -> Words<'a> {
+        Words { rest: text }
     }
-    Ok(())
+
+    // The bytes that the next word stands for, at the front of `out`: how many. There are none behind the last.
+    pub fn next_bytes(&mut self, out: &mut [u8]) -> usize
+        ensures { IsPrefixLen result out.new }
+    {
+        unhex(self.next().unwrap_or_default(), out)
+    }
 }
 
-// Whether an answer is the one in the file, and the line's end.
-pub fn say_whether(rt: &impl Print, right: bool) -> io::Result<()> {
+impl<'a> Iterator for Words<'a> {
+    type Item = &'a [u8];
+
+    ghost remaining = { λ words. at_most (length words.rest.now) };
+
+    fn next(&mut self) -> Option<&'a [u8]> {
+        let text = from_word(self.rest);
+        let (_, behind) = text.split_first()?;
+        let end = behind
+            .iter()
+            .position(|character| is_blank(*character))
+            .unwrap_or(behind.len());
+        let (word, rest) = text.split_at(1 + end);
+        self.rest = rest;
+        Some(word)
+    }
+}
+
+// Bytes as pairs of hexadecimal digits.
+#[derive(Clone, Copy)]
+pub struct Hex<'a>(pub &'a [u8]);
+
+impl fmt::Display for Hex<'_> {
+    fn fmt<W: fmt::Write>(&self, f: &mut fmt::Formatter<W>) -> fmt::Result {
+        for byte in self.0 {
+            write!(f, "{byte:02x}")?;
+        }
+        Ok(())
+    }
+}
+
+// Whether an answer is the one in the file, at a line's end.
+pub fn whether(right: bool) -> &'static str {
     if right {
-        said::say(rt, b", as listed\n")
+        ", as listed"
     } else {
-        said::say(rt, b", NOT as listed\n")
+        ", NOT as listed"
     }
 }

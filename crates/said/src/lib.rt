@@ -1,153 +1,137 @@
-// What the programs share: a file loaded, words, numbers and refusals printed, areas summed up, and where a
-// listing goes on.
+// What the programs share: a file loaded, refusals in words, areas summed up, and where a listing goes on.
 #![tactic(auto)]
 
-ghost use Rattle.std.specs.Prelude.{◌≡◌, length, IfOk};
 ghost use Rattle.std.specs.Counts.{IsPrefixLen};
+ghost use Rattle.std.specs.Prelude.{◌≡◌, length, IfOk, IfSome};
 
 use refusal::Refusal;
 use std::io::{Read, Seek, SeekFrom};
 use std::rt::Files;
-use std::{fs, io};
+use std::{fmt, fs, io};
 
-// What became of a file: all of its bytes, so many, stand at the buffer's front; or it was not loaded.
+// Why nothing of a file is handed out: it is longer than so many bytes, or it was not read to its end.
 #[derive(Clone, Copy)]
-pub struct Loaded {
-    pub whole: bool,
-    pub size: usize,
+enum Unread {
+    Over(usize),
+    CutOff,
 }
 
-// How many bytes the file has, 0 where that cannot be told. It is then read from its start.
-fn length_of(file: &mut impl Seek) -> u64 {
-    let end = file.seek(SeekFrom::End(0));
-    let _ = file.rewind();
-    end.unwrap_or(0)
-}
-
-// Reads until the buffer is full, the input ends or a read fails: how many bytes stand at the buffer's front.
-fn read_full(file: &mut impl Read, buffer: &mut [u8]) -> usize
-    ensures { IsPrefixLen result buffer.new }
-{
-    let mut done: usize = 0;
-    while done < buffer.len() {
-        match file.read(&mut buffer[done..]) {
-            Ok(0) | Err(_) => return done,
-            Ok(n) => done += n,
+impl fmt::Display for Unread {
+    fn fmt<W: fmt::Write>(&self, f: &mut fmt::Formatter<W>) -> fmt::Result {
+        match self {
+            Unread::Over(size) => write!(f, "over {size} bytes, nothing of it is read"),
+            Unread::CutOff => write!(f, "not read to its end"),
         }
     }
-    done
 }
 
-const NOT_LOADED: Loaded = Loaded {
-    whole: false,
-    size: 0,
-};
+// How many bytes the file has; it is then read from its start.
+fn length_of(file: &mut impl Seek) -> io::Result<u64> {
+    let length = file.seek(SeekFrom::End(0))?;
+    file.rewind()?;
+    Ok(length)
+}
 
-// Nothing of a file that is longer than the buffer is read.
-fn read_whole(
-    rt: &impl Print,
-    file: &mut (impl Read + Seek),
-    path: &[u8],
-    buffer: &mut [u8],
-) -> io::Result<Loaded>
-    ensures loaded { IfOk result (λ loaded. IsPrefixLen loaded.size buffer.new) }
+// How many bytes stand at the buffer's front, which are all of the file. Nothing of a longer file is read.
+fn read_whole(file: &mut (impl Read + Seek), buffer: &mut [u8]) -> Result<usize, Unread>
+    ensures loaded { IfOk result (λ size. IsPrefixLen size buffer.new) }
     ensures kept { length buffer.new ≡ length buffer.old }
 {
-    let length = length_of(file);
+    let length = length_of(file).map_err(|_| Unread::CutOff)?;
     if length > buffer.len() as u64 {
-        say(rt, path)?;
-        say_decimal(rt, b": over ", buffer.len() as u64)?;
-        say(rt, b" bytes, nothing of it is read\n")?;
-        return Ok(NOT_LOADED);
+        return Err(Unread::Over(buffer.len()));
     }
-    let n = read_full(file, buffer);
-    if n as u64 != length {
-        say(rt, path)?;
-        say(rt, b": not read to its end\n")?;
-        return Ok(NOT_LOADED);
-    }
-    Ok(Loaded {
-        whole: true,
-        size: n,
-    })
+    let size = length as usize;
+    file.read_exact(&mut buffer[..size])
+        .map_err(|_| Unread::CutOff)?;
+    Ok(size)
 }
 
-// Reads a file of the program's folder to the front of the buffer, and says why where it does not. An error is
-// one of printing; it leaves a buffer of the same length, whose bytes may be those read so far.
+// Reads a file of the program's folder: how many bytes of it, all of them, stand at the buffer's front. Where it
+// does not, it says why. An error is one of printing; it leaves a buffer of the same length, whose bytes may be
+// those read so far.
 pub fn load(
     rt: &(impl Files + Print + Eprint),
-    path: &[u8],
+    path: &str,
     buffer: &mut [u8],
-) -> io::Result<Loaded>
-    ensures loaded { IfOk result (λ loaded. IsPrefixLen loaded.size buffer.new) }
+) -> io::Result<Option<usize>>
+    ensures loaded { IfOk result (λ loaded. IfSome loaded (λ size. IsPrefixLen size buffer.new)) }
     ensures kept { length buffer.new ≡ length buffer.old }
 {
-    let Ok(name) = str::from_utf8(path) else {
-        eprintln!(rt; "{}: the name is no text", path.escape_ascii())?;
-        return Ok(NOT_LOADED);
-    };
-    match fs::open(rt, name) {
-        Ok(mut file) => read_whole(rt, &mut file, path, buffer),
+    let mut file = match fs::open(rt, path) {
+        Ok(file) => file,
         Err(error) => {
-            eprintln!(rt; "{name}: {error}")?;
-            Ok(NOT_LOADED)
+            eprintln!(rt; "{path}: {error}")?;
+            return Ok(None);
+        }
+    };
+    match read_whole(&mut file, buffer) {
+        Ok(size) => Ok(Some(size)),
+        Err(unread) => {
+            println!(rt; "{path}: {unread}")?;
+            Ok(None)
         }
     }
 }
 
-pub fn say(rt: &impl Print, words: &[u8]) -> io::Result<()> {
-    rt.write_all(words)
-}
-
-// A number in decimal, behind some words.
-pub fn say_decimal(rt: &impl Print, words: &[u8], number: u64) -> io::Result<()> {
-    say(rt, words)?;
-    rt.print(number)
-}
-
-// A number in hexadecimal, behind some words.
-pub fn say_hex(rt: &impl Print, words: &[u8], number: u64) -> io::Result<()> {
-    say(rt, words)?;
-    print!(rt; "{number:x}")
-}
-
-// Where a listing goes on: one above the number found; 0 where none stands above it.
-pub fn above(number: u64, last: u64) -> u64 {
-    if number < last {
-        return number + 1;
+// Hands on the bytes of a file of the program's folder, which has at most 65,536; where it is not read, why not
+// is said, and nothing is handed on.
+pub fn with_file<F: FnOnce(&[u8]) -> io::Result<()>>(
+    rt: &(impl Files + Print + Eprint),
+    path: &str,
+    lines: F,
+) -> io::Result<()>
+    requires { F.IsAlwaysCallable lines }
+{
+    let mut buffer = [0u8; 65536];
+    match load(rt, path, &mut buffer)? {
+        Some(size) => lines(&buffer[..size]),
+        None => Ok(()),
     }
-    0
 }
 
-pub fn say_refusal(rt: &impl Print, wrong: Refusal) -> io::Result<()> {
-    let fault = wrong.fault;
-    say_decimal(rt, b"refused ", refusal::number_of(fault) as u64)?;
-    say_decimal(rt, b" at place ", wrong.place)?;
-    say_decimal(rt, b", more ", wrong.more)
+// Where a listing goes on: one above the number found, unless that is the last.
+pub fn above(number: u64, last: u64) -> Option<u64> {
+    (number < last).then(|| number + 1)
 }
 
-// A checksum that goes on over a word's eight bytes, the lowest first.
-fn sum_on(sum: u32, word: u64) -> u32 {
-    let bytes = [
-        (word % 256) as u8,
-        (word / 256 % 256) as u8,
-        (word / 65536 % 256) as u8,
-        (word / 16777216 % 256) as u8,
-        (word / 4294967296 % 256) as u8,
-        (word / 1099511627776 % 256) as u8,
-        (word / 281474976710656 % 256) as u8,
-        (word / 72057594037927936) as u8,
-    ];
-    crc::checksum_from(sum, &bytes)
+// What a call gives, in words, or its refusal.
+#[derive(Clone, Copy)]
+pub struct Answer<T, R>(pub Result<T, R>);
+
+impl<T: fmt::Display, R: fmt::Display> fmt::Display for Answer<T, R> {
+    fn fmt<W: fmt::Write>(&self, f: &mut fmt::Formatter<W>) -> fmt::Result {
+        match &self.0 {
+            Ok(given) => write!(f, "{given}"),
+            Err(wrong) => write!(f, "{wrong}"),
+        }
+    }
 }
 
-// The checksum of an area's words.
+// A refusal by its number and place.
+#[derive(Clone, Copy)]
+pub struct Refused(pub Refusal);
+
+impl fmt::Display for Refused {
+    fn fmt<W: fmt::Write>(&self, f: &mut fmt::Formatter<W>) -> fmt::Result {
+        let Refused(wrong) = *self;
+        let number = refusal::number_of(wrong.fault);
+        write!(f, "refused {number} at place {}", wrong.place)
+    }
+}
+
+// A refusal with what more it says.
+#[derive(Clone, Copy)]
+pub struct RefusedWith(pub Refusal);
+
+impl fmt::Display for RefusedWith {
+    fn fmt<W: fmt::Write>(&self, f: &mut fmt::Formatter<W>) -> fmt::Result {
+        let RefusedWith(wrong) = *self;
+        write!(f, "{}, more {}", Refused(wrong), wrong.more)
+    }
+}
+
+// The checksum of an area's words, the lowest byte of each first.
 pub fn sum_of(area: &[u64]) -> u32 {
-    let mut sum: u32 = 0;
-    let mut i: usize = 0;
-    while i < area.len() {
-        sum = sum_on(sum, area[i]);
-        i += 1;
-    }
-    sum
+    area.iter().fold(0, |sum, word| crc::checksum_from(sum, &word.to_le_bytes()))
 }

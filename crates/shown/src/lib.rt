@@ -1,58 +1,66 @@
-// Headers, pages and trees in words: what programs that run files say of them, a line for a call.
+// Headers, pages, trees and properties in words: what programs that run files say of them, a line for a call.
 #![tactic(auto)]
 
 pub mod pages;
 pub mod trees;
 
-use header::Header;
+use header::{Header, HeaderAnswer};
+use property::Property;
 use refusal::{Refusal, Verdict};
-use std::io;
-use tree::{Listed, Node};
+use std::fmt;
 
-// Answers without the line's end: what a header says, an entry that is found, and that none is.
-pub fn say_header(rt: &impl Print, header: Header) -> io::Result<()> {
-    let nodes = header.nodes;
-    let blocks = header.blocks;
-    said::say_decimal(rt, b"method ", header.method as u64)?;
-    said::say_hex(rt, b", nodes ", nodes.number)?;
-    said::say_hex(rt, b" at ", nodes.offset)?;
-    said::say_hex(rt, b", blocks ", blocks.number)?;
-    said::say_hex(rt, b" at ", blocks.offset)?;
-    said::say_decimal(rt, b", end ", header.end)?;
-    said::say_decimal(rt, b", edition ", header.edition)
+// What a header says.
+#[derive(Clone, Copy)]
+pub struct HeaderWords(pub Header);
+
+impl fmt::Display for HeaderWords {
+    fn fmt<W: fmt::Write>(&self, f: &mut fmt::Formatter<W>) -> fmt::Result {
+        let HeaderWords(header) = *self;
+        let nodes = header.nodes;
+        let blocks = header.blocks;
+        write!(f, "method {}", header.method)?;
+        write!(f, ", nodes {:x} at {:x}", nodes.number, nodes.offset)?;
+        write!(f, ", blocks {:x} at {:x}", blocks.number, blocks.offset)?;
+        write!(f, ", end {}, edition {}", header.end, header.edition)
+    }
 }
 
-pub fn say_node(rt: &impl Print, node: Node, pages: u64) -> io::Result<()> {
-    said::say_decimal(rt, b"found, pages ", pages)?;
-    said::say_hex(rt, b", node ", node.node)?;
-    said::say_hex(rt, b", data block ", node.block)?;
-    said::say_hex(rt, b", subnode block ", node.subnode)?;
-    said::say_hex(rt, b", parent ", node.parent)
+pub fn header_words(answer: HeaderAnswer) -> Result<HeaderWords, Refusal> {
+    match answer {
+        HeaderAnswer::Says(header) => Ok(HeaderWords(header)),
+        HeaderAnswer::Refused(wrong) => Err(wrong),
+    }
 }
 
-pub fn say_block(rt: &impl Print, block: Listed, pages: u64) -> io::Result<()> {
-    said::say_decimal(rt, b"found, pages ", pages)?;
-    said::say_hex(rt, b", block ", block.block)?;
-    said::say_hex(rt, b", offset ", block.offset)?;
-    said::say_decimal(rt, b", size ", block.size)?;
-    said::say_decimal(rt, b", references ", block.references)
-}
-
-pub fn say_absent(rt: &impl Print, pages: u64) -> io::Result<()> {
-    said::say_decimal(rt, b"absent, pages ", pages)
-}
-
-// A refusal by its number and place, with the line's end.
-pub fn say_refused(rt: &impl Print, wrong: Refusal) -> io::Result<()> {
-    let fault = wrong.fault;
-    said::say_decimal(rt, b"refused ", refusal::number_of(fault) as u64)?;
-    said::say_decimal(rt, b" at place ", wrong.place)?;
-    said::say(rt, b"\n")
-}
-
-pub fn say_tested(rt: &impl Print, verdict: Verdict) -> io::Result<()> {
+pub fn verdict_words(verdict: Verdict) -> Result<&'static str, Refusal> {
     match verdict {
-        Verdict::Refused(wrong) => say_refused(rt, wrong),
-        Verdict::Accepted => said::say(rt, b"accepted\n"),
+        Verdict::Accepted => Ok("accepted"),
+        Verdict::Refused(wrong) => Err(wrong),
+    }
+}
+
+// A property's type and what holds its value.
+#[derive(Clone, Copy)]
+pub struct PropertyWords(pub Property);
+
+impl fmt::Display for PropertyWords {
+    fn fmt<W: fmt::Write>(&self, f: &mut fmt::Formatter<W>) -> fmt::Result {
+        match self.0 {
+            Property::Number(code, value) => write!(f, "type {code:04x}, number {value:08x}"),
+            Property::Empty(code) => write!(f, "type {code:04x}, empty"),
+            Property::Item(code, item) => write!(f, "type {code:04x}, item {item:08x}"),
+            Property::Subnode(code, node) => write!(f, "type {code:04x}, subnode {node:08x}"),
+            Property::Absent => write!(f, "absent"),
+            Property::Refused(wrong) => write!(f, "{}", said::Refused(wrong)),
+        }
+    }
+}
+
+// A property that is there, or that none is.
+pub fn property(answer: Property) -> Result<Option<Property>, Refusal> {
+    match answer {
+        Property::Absent => Ok(None),
+        Property::Refused(wrong) => Err(wrong),
+        found => Ok(Some(found)),
     }
 }

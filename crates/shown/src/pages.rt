@@ -1,146 +1,124 @@
 // The header's answer, and checksums and signatures of headers, pages and blocks, beside those that stand in
 // their bytes.
-use header::HeaderAnswer;
+use header::Reference;
+use said::{Answer, Refused};
 use std::io;
 use std::rt::Files;
 
-fn say_answer(rt: &impl Print, answer: HeaderAnswer) -> io::Result<()> {
-    match answer {
-        HeaderAnswer::Refused(wrong) => crate::say_refused(rt, wrong),
-        HeaderAnswer::Says(header) => {
-            crate::say_header(rt, header)?;
-            said::say(rt, b"\n")
-        }
-    }
-}
-
-pub fn header_line(rt: &impl Print, section: &[u8], image: &[u8]) -> io::Result<()> {
-    said::say(rt, section)?;
-    said::say(rt, b" header: ")?;
-    say_answer(rt, pst::header(image))
+pub fn header_line(rt: &impl Print, section: &str, image: &[u8]) -> io::Result<()> {
+    let answer = crate::header_words(pst::header(image)).map_err(Refused);
+    println!(rt; "{section} header: {}", Answer(answer))
 }
 
 // A header in a file of digits.
 pub fn header_lines(
     rt: &(impl Files + Print + Eprint),
-    section: &[u8],
-    name: &[u8],
+    section: &str,
+    name: &str,
 ) -> io::Result<()> {
-    let mut header = [0u8; 564];
-    let file = listed::load_hex(rt, name, &mut header)?;
-    if !file.whole {
-        return Ok(());
-    }
-    let size = file.size;
-    header_line(rt, section, &header[..size])
+    listed::with_hex(rt, name, |header| header_line(rt, section, header))
+}
+
+// The bytes of a number that stands at `place`, where it does.
+fn number_at<const N: usize>(bytes: &[u8], place: usize) -> Option<[u8; N]> {
+    bytes.get(place..)?.first_chunk().copied()
+}
+
+fn four_at(bytes: &[u8], place: usize) -> Option<u32> {
+    number_at(bytes, place).map(u32::from_le_bytes)
+}
+
+fn two_at(bytes: &[u8], place: usize) -> Option<u16> {
+    number_at(bytes, place).map(u16::from_le_bytes)
 }
 
 // The checksum of so many bytes of a header from 8, and the one that stands at `place`.
 pub fn header_sum_line(
     rt: &impl Print,
-    section: &[u8],
+    section: &str,
     header: &[u8],
     size: usize,
     place: usize,
 ) -> io::Result<()> {
-    if header.len() < 8 {
+    let summed = header.get(8..).and_then(|rest| rest.get(..size));
+    let (Some(summed), Some(stated)) = (summed, four_at(header, place)) else {
         return Ok(());
-    }
-    if header.len() - 8 < size {
-        return Ok(());
-    }
-    if header.len() - 4 < place {
-        return Ok(());
-    }
-    let sum = pst::checksum(&header[8..8 + size]);
-    said::say(rt, section)?;
-    said::say_decimal(rt, b" checksum of ", size as u64)?;
-    said::say(rt, b" bytes at 8: ")?;
-    print!(rt; "{sum:08x}")?;
-    listed::say_whether(rt, sum == le::field4(header, place))
+    };
+    let sum = pst::checksum(summed);
+    print!(rt; "{section} checksum of {size} bytes at 8: {sum:08x}")?;
+    println!(rt; "{}", listed::whether(sum == stated))
 }
 
 // The checksum of the bytes to `end`, and the one that stands behind them at `place`.
 pub fn checksum_line(
     rt: &impl Print,
-    section: &[u8],
+    section: &str,
     bytes: &[u8],
     end: usize,
     place: usize,
 ) -> io::Result<()> {
-    if bytes.len() < end {
+    let (Some(summed), Some(stated)) = (bytes.get(..end), four_at(bytes, place)) else {
         return Ok(());
-    }
-    if bytes.len() < 4 {
-        return Ok(());
-    }
-    if bytes.len() - 4 < place {
-        return Ok(());
-    }
-    let sum = pst::checksum(&bytes[0..end]);
-    said::say(rt, section)?;
-    said::say_decimal(rt, b" checksum of ", end as u64)?;
-    said::say(rt, b" bytes: ")?;
-    print!(rt; "{sum:08x}")?;
-    listed::say_whether(rt, sum == le::field4(bytes, place))
+    };
+    let sum = pst::checksum(summed);
+    print!(rt; "{section} checksum of {end} bytes: {sum:08x}")?;
+    println!(rt; "{}", listed::whether(sum == stated))
 }
 
-pub fn say_signature(rt: &impl Print, section: &[u8], offset: u64, number: u64) -> io::Result<u16> {
+// The signature of an offset and a number, without the line's end.
+fn say_signature(rt: &impl Print, section: &str, reference: Reference) -> io::Result<u16> {
+    let Reference { number, offset } = reference;
     let signed = pst::signature(offset, number);
-    said::say(rt, section)?;
-    said::say_hex(rt, b" signature of ", offset)?;
-    said::say_hex(rt, b" and ", number)?;
-    said::say(rt, b": ")?;
-    print!(rt; "{signed:04x}")?;
+    print!(rt; "{section} signature of {offset:x} and {number:x}: {signed:04x}")?;
     Ok(signed)
+}
+
+pub fn bare_signature_line(rt: &impl Print, section: &str, reference: Reference) -> io::Result<()> {
+    say_signature(rt, section, reference)?;
+    println!(rt)
 }
 
 // The signature of an offset and a number, and the one that stands at `place`.
 pub fn signature_line(
     rt: &impl Print,
-    section: &[u8],
+    section: &str,
     bytes: &[u8],
     place: usize,
-    offset: u64,
-    number: u64,
+    reference: Reference,
 ) -> io::Result<()> {
-    if bytes.len() < 2 {
+    let Some(stated) = two_at(bytes, place) else {
         return Ok(());
-    }
-    if bytes.len() - 2 < place {
-        return Ok(());
-    }
-    let signed = say_signature(rt, section, offset, number)?;
-    listed::say_whether(rt, signed == le::field2(bytes, place))
+    };
+    let signed = say_signature(rt, section, reference)?;
+    println!(rt; "{}", listed::whether(signed == stated))
 }
 
 // A page in a file of digits: its checksum goes to `end`, behind which stand its kind and its signature.
 pub fn page_lines(
     rt: &(impl Files + Print + Eprint),
-    section: &[u8],
-    name: &[u8],
+    section: &str,
+    name: &str,
     end: usize,
     checksum: usize,
-    offset: u64,
-    number: u64,
+    reference: Reference,
 ) -> io::Result<()> {
-    if 508 < end {
+    let Some(signature) = end.checked_add(2) else {
         return Ok(());
-    }
-    let mut page = [0u8; 512];
-    let file = listed::load_hex(rt, name, &mut page)?;
-    if !file.whole {
-        return Ok(());
-    }
-    let size = file.size;
-    checksum_line(rt, section, &page[..size], end, checksum)?;
-    signature_line(rt, section, &page[..size], end + 2, offset, number)
+    };
+    listed::with_hex(rt, name, |page| {
+        checksum_line(rt, section, page, end, checksum)?;
+        signature_line(rt, section, page, signature, reference)
+    })
 }
 
-// The room of a block with so many bytes of data.
-pub fn room_line(rt: &impl Print, section: &[u8], size: u32, room: u64) -> io::Result<()> {
-    said::say(rt, section)?;
-    said::say_decimal(rt, b" room of ", size as u64)?;
-    said::say_decimal(rt, b": ", room)?;
-    said::say(rt, b"\n")
+// The room of a block with so many bytes of data, by an edition's rule.
+pub fn room_line<F: Fn(u32) -> u64>(
+    rt: &impl Print,
+    section: &str,
+    size: u32,
+    room: F,
+) -> io::Result<()>
+    requires { F.IsAlwaysCallable room }
+{
+    println!(rt; "{section} room of {size}: {}", room(size))
 }

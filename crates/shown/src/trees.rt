@@ -1,154 +1,210 @@
 // The two trees of an image: their checks, entries looked up by their numbers, and the entries listed.
-use std::io;
+use refusal::Refusal;
+use said::{Answer, Refused};
 use std::rt::Files;
-use tree::{FoundBlock, FoundNode};
+use std::{fmt, io};
+use tree::{FoundBlock, FoundNode, Listed, Node};
 
-fn say_node_answer(rt: &impl Print, found: FoundNode) -> io::Result<()> {
+// An entry of a tree: its number, the highest that an entry can have, and what it says of itself.
+pub trait Entry {
+    const LAST: u64;
+
+    fn number(&self) -> u64;
+
+    fn say<W: fmt::Write>(&self, f: &mut fmt::Formatter<W>) -> fmt::Result;
+}
+
+impl Entry for Node {
+    const LAST: u64 = 0xFFFF_FFFF;
+
+    fn number(&self) -> u64 {
+        self.node
+    }
+
+    fn say<W: fmt::Write>(&self, f: &mut fmt::Formatter<W>) -> fmt::Result {
+        let Node {
+            node,
+            block,
+            subnode,
+            parent,
+        } = *self;
+        write!(f, "node {node:x}, data block {block:x}")?;
+        write!(f, ", subnode block {subnode:x}, parent {parent:x}")
+    }
+}
+
+impl Entry for Listed {
+    const LAST: u64 = 0xFFFF_FFFF_FFFF_FFFF;
+
+    fn number(&self) -> u64 {
+        self.block
+    }
+
+    fn say<W: fmt::Write>(&self, f: &mut fmt::Formatter<W>) -> fmt::Result {
+        let Listed {
+            block,
+            offset,
+            size,
+            references,
+        } = *self;
+        write!(f, "block {block:x}, offset {offset:x}")?;
+        write!(f, ", size {size}, references {references}")
+    }
+}
+
+// What a call finds in a tree, or that it finds nothing; beside it how many pages were read.
+#[derive(Clone, Copy)]
+pub enum Found<T> {
+    Entry(T, u64),
+    Absent(u64),
+}
+
+pub fn found_node(found: FoundNode) -> Result<Found<Node>, Refusal> {
     match found {
-        FoundNode::Found(n, pages) => {
-            crate::say_node(rt, n, pages)?;
-            said::say(rt, b"\n")
-        }
-        FoundNode::Absent(pages) => {
-            crate::say_absent(rt, pages)?;
-            said::say(rt, b"\n")
-        }
-        FoundNode::Refused(wrong) => crate::say_refused(rt, wrong),
+        FoundNode::Found(node, pages) => Ok(Found::Entry(node, pages)),
+        FoundNode::Absent(pages) => Ok(Found::Absent(pages)),
+        FoundNode::Refused(wrong) => Err(wrong),
     }
 }
 
-fn say_block_answer(rt: &impl Print, found: FoundBlock) -> io::Result<()> {
+pub fn found_block(found: FoundBlock) -> Result<Found<Listed>, Refusal> {
     match found {
-        FoundBlock::Found(b, pages) => {
-            crate::say_block(rt, b, pages)?;
-            said::say(rt, b"\n")
+        FoundBlock::Found(block, pages) => Ok(Found::Entry(block, pages)),
+        FoundBlock::Absent(pages) => Ok(Found::Absent(pages)),
+        FoundBlock::Refused(wrong) => Err(wrong),
+    }
+}
+
+#[derive(Clone, Copy)]
+pub struct FoundWords<T>(pub Found<T>);
+
+impl<T: Entry> fmt::Display for FoundWords<T> {
+    fn fmt<W: fmt::Write>(&self, f: &mut fmt::Formatter<W>) -> fmt::Result {
+        match &self.0 {
+            Found::Entry(entry, pages) => {
+                write!(f, "found, pages {pages}, ")?;
+                entry.say(f)
+            }
+            Found::Absent(pages) => write!(f, "absent, pages {pages}"),
         }
-        FoundBlock::Absent(pages) => {
-            crate::say_absent(rt, pages)?;
-            said::say(rt, b"\n")
-        }
-        FoundBlock::Refused(wrong) => crate::say_refused(rt, wrong),
     }
 }
 
-fn say_call(rt: &impl Print, section: &[u8], call: &[u8], number: u64) -> io::Result<()> {
-    said::say(rt, section)?;
-    said::say_hex(rt, call, number)?;
-    said::say(rt, b": ")
-}
-
-fn node_line(rt: &impl Print, section: &[u8], image: &[u8], node: u64) -> io::Result<()> {
-    say_call(rt, section, b" find_node ", node)?;
-    say_node_answer(rt, pst::find_node(image, node))
-}
-
-fn block_line(rt: &impl Print, section: &[u8], image: &[u8], block: u64) -> io::Result<()> {
-    say_call(rt, section, b" find_block ", block)?;
-    say_block_answer(rt, pst::find_block(image, block))
-}
-
-fn node_lines(rt: &impl Print, section: &[u8], image: &[u8], nodes: &[u64]) -> io::Result<()> {
-    let mut i: usize = 0;
-    while i < nodes.len() {
-        node_line(rt, section, image, nodes[i])?;
-        i += 1;
+// The number of the entry found.
+pub fn number_found<T: Entry + Copy>(found: Result<Found<T>, Refusal>) -> Option<u64> {
+    match found {
+        Ok(Found::Entry(entry, _)) => Some(entry.number()),
+        _ => None,
     }
-    Ok(())
 }
 
-fn block_lines(rt: &impl Print, section: &[u8], image: &[u8], blocks: &[u64]) -> io::Result<()> {
-    let mut i: usize = 0;
-    while i < blocks.len() {
-        block_line(rt, section, image, blocks[i])?;
-        i += 1;
-    }
-    Ok(())
-}
-
-fn next_node_line(rt: &impl Print, section: &[u8], image: &[u8], from: u64) -> io::Result<u64> {
-    say_call(rt, section, b" next_node ", from)?;
-    let found = pst::next_node(image, from);
-    say_node_answer(rt, found)?;
-    let FoundNode::Found(n, pages) = found else {
-        return Ok(0);
-    };
-    Ok(said::above(n.node, 0xFFFF_FFFF))
-}
-
-fn next_block_line(rt: &impl Print, section: &[u8], image: &[u8], from: u64) -> io::Result<u64> {
-    say_call(rt, section, b" next_block ", from)?;
-    let found = pst::next_block(image, from);
-    say_block_answer(rt, found)?;
-    let FoundBlock::Found(b, pages) = found else {
-        return Ok(0);
-    };
-    Ok(said::above(b.block, 0xFFFF_FFFF_FFFF_FFFF))
-}
-
-fn next_line(
-    rt: &impl Print,
-    section: &[u8],
-    image: &[u8],
-    blocks: bool,
-    from: u64,
-) -> io::Result<u64> {
-    if blocks {
-        return next_block_line(rt, section, image, from);
-    }
-    next_node_line(rt, section, image, from)
-}
-
-// At most so many entries, which is more than a leaf page has.
-fn list(rt: &impl Print, section: &[u8], image: &[u8], blocks: bool) -> io::Result<()> {
+// Goes through a tree from 0 on, each time from one above the number found: at most 60 entries, which is more
+// than a leaf page has. Each answer is handed on, the last one too, behind the number that was asked for.
+pub fn go_through<
+    T: Entry + Copy,
+    F: Fn(u64) -> Result<Found<T>, Refusal>,
+    L: FnMut(u64, Result<Found<T>, Refusal>) -> io::Result<()>,
+>(next: F, mut lines: L) -> io::Result<()>
+    requires asked { F.IsAlwaysCallable next }
+    requires said { L.IsAlwaysCallable lines }
+{
     let mut from: u64 = 0;
-    let mut left: usize = 60;
-    while left > 0 {
-        from = next_line(rt, section, image, blocks, from)?;
-        if from == 0 {
+    for _ in 0..60 {
+        let found = next(from);
+        lines(from, found)?;
+        let Some(number) = number_found(found) else {
             return Ok(());
-        }
-        left -= 1;
+        };
+        let Some(above) = said::above(number, T::LAST) else {
+            return Ok(());
+        };
+        from = above;
     }
     Ok(())
 }
 
-fn check_lines(rt: &impl Print, section: &[u8], image: &[u8]) -> io::Result<()> {
-    said::say(rt, section)?;
-    said::say(rt, b" check_nodes: ")?;
-    crate::say_tested(rt, pst::check_nodes(image))?;
-    said::say(rt, section)?;
-    said::say(rt, b" check_blocks: ")?;
-    crate::say_tested(rt, pst::check_blocks(image))
+fn found_line<T: Entry + Copy>(
+    rt: &impl Print,
+    section: &str,
+    call: &str,
+    number: u64,
+    found: Result<Found<T>, Refusal>,
+) -> io::Result<()> {
+    let found = found.map(FoundWords).map_err(Refused);
+    println!(rt; "{section} {call} {number:x}: {}", Answer(found))
+}
+
+// One call on each number, and one on each entry in turn.
+fn lookup_lines<T: Entry + Copy, F: Fn(u64) -> Result<Found<T>, Refusal>>(
+    rt: &impl Print,
+    section: &str,
+    call: &str,
+    numbers: &[u64],
+    find: F,
+) -> io::Result<()>
+    requires { F.IsAlwaysCallable find }
+{
+    for number in numbers {
+        found_line(rt, section, call, *number, find(*number))?;
+    }
+    Ok(())
+}
+
+fn list_lines<T: Entry + Copy, F: Fn(u64) -> Result<Found<T>, Refusal>>(
+    rt: &impl Print,
+    section: &str,
+    call: &str,
+    next: F,
+) -> io::Result<()>
+    requires { F.IsAlwaysCallable next }
+{
+    go_through(
+        next,
+        |from, found| found_line(rt, section, call, from, found),
+    )
+}
+
+fn check_lines(rt: &impl Print, section: &str, image: &[u8]) -> io::Result<()> {
+    let nodes = crate::verdict_words(pst::check_nodes(image)).map_err(Refused);
+    println!(rt; "{section} check_nodes: {}", Answer(nodes))?;
+    let blocks = crate::verdict_words(pst::check_blocks(image)).map_err(Refused);
+    println!(rt; "{section} check_blocks: {}", Answer(blocks))
 }
 
 fn tree_lines(
     rt: &impl Print,
-    section: &[u8],
+    section: &str,
     image: &[u8],
     nodes: &[u64],
     blocks: &[u64],
 ) -> io::Result<()> {
     crate::pages::header_line(rt, section, image)?;
     check_lines(rt, section, image)?;
-    node_lines(rt, section, image, nodes)?;
-    block_lines(rt, section, image, blocks)?;
-    list(rt, section, image, false)?;
-    list(rt, section, image, true)
+    lookup_lines(rt, section, "find_node", nodes, |node| {
+        found_node(pst::find_node(image, node))
+    })?;
+    lookup_lines(rt, section, "find_block", blocks, |block| {
+        found_block(pst::find_block(image, block))
+    })?;
+    list_lines(rt, section, "next_node", |from| {
+        found_node(pst::next_node(image, from))
+    })?;
+    list_lines(rt, section, "next_block", |from| {
+        found_block(pst::next_block(image, from))
+    })
 }
 
 // An image in a file, in which these nodes and blocks are looked up.
 pub fn image_lines(
     rt: &(impl Files + Print + Eprint),
-    section: &[u8],
-    name: &[u8],
+    section: &str,
+    name: &str,
     nodes: &[u64],
     blocks: &[u64],
 ) -> io::Result<()> {
-    let mut buffer = [0u8; 65536];
-    let file = said::load(rt, name, &mut buffer)?;
-    if !file.whole {
-        return Ok(());
-    }
-    let n = file.size;
-    tree_lines(rt, section, &buffer[..n], nodes, blocks)
+    said::with_file(
+        rt,
+        name,
+        |image| tree_lines(rt, section, image, nodes, blocks),
+    )
 }

@@ -7,118 +7,106 @@ mod mini;
 mod pages;
 mod tables;
 
-ghost use Rattle.std.specs.Prelude.{◌≤◌, length, IfOk};
-
+use coding::{decode, encode};
+use listed::{Hex, Words};
+use refusal::Verdict;
 use std::io;
 use std::rt::Files;
 
-fn say_call(
+// The bytes, what a call makes of them by a method and under a block's number, and whether that is listed.
+fn coding_line<F: FnOnce(u8, u64, &mut [u8]) -> Verdict>(
     rt: &impl Print,
-    section: &[u8],
-    call: &[u8],
-    method: u8,
-    block: u64,
-    bytes: &[u8],
-) -> io::Result<()> {
-    said::say(rt, section)?;
-    said::say_decimal(rt, call, method as u64)?;
-    said::say(rt, b" block ")?;
-    print!(rt; "{block:08x}")?;
-    said::say(rt, b" bytes ")?;
-    listed::say_bytes(rt, bytes)?;
-    said::say(rt, b": ")
-}
-
-fn say_coded(rt: &impl Print, bytes: &[u8], listed: &[u8]) -> io::Result<()> {
-    listed::say_bytes(rt, bytes)?;
-    listed::say_whether(rt, check::same(bytes, listed))
-}
-
-fn encode(
-    rt: &impl Print,
-    section: &[u8],
+    call: &str,
+    code: F,
     method: u8,
     block: u64,
     bytes: &mut [u8],
-    listed: &[u8],
-) -> io::Result<()> {
-    say_call(rt, section, b" encode method ", method, block, bytes)?;
-    coding::encode(method, block, bytes);
-    say_coded(rt, bytes, listed)
-}
-
-fn decode(
-    rt: &impl Print,
-    section: &[u8],
-    method: u8,
-    block: u64,
-    bytes: &mut [u8],
-    listed: &[u8],
-) -> io::Result<()> {
-    say_call(rt, section, b" decode method ", method, block, bytes)?;
-    coding::decode(method, block, bytes);
-    say_coded(rt, bytes, listed)
+    coded: &[u8],
+) -> io::Result<()>
+    requires { F.IsAlwaysCallable code }
+{
+    print!(rt;
+        "{call} method {method} block {block:08x} bytes {}: ",
+        Hex(bytes)
+    )?;
+    let _ = code(method, block, bytes);
+    println!(rt; "{}{}", Hex(bytes), listed::whether(&*bytes == coded))
 }
 
 // 5.2: a block number, bytes, and what the cyclic steps make of them, both ways.
-fn cyclic_line(rt: &impl Print, letters: &[u8], from: usize) -> io::Result<usize>
-    requires { from ≤ length letters.now }
-    ensures { IfOk result (λ end. end ≤ length letters.now) }
-{
+fn cyclic_lines(rt: &impl Print, words: &mut Words<'_>) -> io::Result<()> {
     let mut number = [0u8; 4];
-    let key = listed::next_word(letters, from, &mut number);
+    words.next_bytes(&mut number);
+    let block = u64::from(u32::from_be_bytes(number));
     let mut plain = [0u8; 64];
-    let first = listed::next_word(letters, key.end, &mut plain);
+    let plain_size = words.next_bytes(&mut plain);
     let mut coded = [0u8; 64];
-    let second = listed::next_word(letters, first.end, &mut coded);
-    let block = listed::written(number);
-    let n = first.size;
-    let m = second.size;
+    let coded_size = words.next_bytes(&mut coded);
     let mut work = plain;
-    encode(rt, b"5.2", 2, block, &mut work[..n], &coded[..m])?;
-    let mut back = coded;
-    decode(rt, b"5.2", 2, block, &mut back[..m], &plain[..n])?;
-    Ok(second.end)
+    let bytes = &mut work[..plain_size];
+    coding_line(
+        rt,
+        "5.2 encode",
+        encode,
+        2,
+        block,
+        bytes,
+        &coded[..coded_size],
+    )?;
+    let mut work = coded;
+    let bytes = &mut work[..coded_size];
+    coding_line(
+        rt,
+        "5.2 decode",
+        decode,
+        2,
+        block,
+        bytes,
+        &plain[..plain_size],
+    )
 }
 
 // 5.1: bytes, what R makes of them, and what I makes of them.
-fn permute_line(rt: &impl Print, letters: &[u8], from: usize) -> io::Result<()>
-    requires { from ≤ length letters.now }
-{
+fn permute_lines(rt: &impl Print, words: &mut Words<'_>) -> io::Result<()> {
     let mut plain = [0u8; 64];
-    let first = listed::next_word(letters, from, &mut plain);
+    let size = words.next_bytes(&mut plain);
     let mut by_r = [0u8; 64];
-    let second = listed::next_word(letters, first.end, &mut by_r);
+    let r_size = words.next_bytes(&mut by_r);
     let mut by_i = [0u8; 64];
-    let third = listed::next_word(letters, second.end, &mut by_i);
-    let n = first.size;
-    let m = second.size;
-    let k = third.size;
+    let i_size = words.next_bytes(&mut by_i);
     let mut work = plain;
-    encode(rt, b"5.1", 1, 0, &mut work[..n], &by_r[..m])?;
-    let mut back = plain;
-    decode(rt, b"5.1", 1, 0, &mut back[..n], &by_i[..k])
+    coding_line(
+        rt,
+        "5.1 encode",
+        encode,
+        1,
+        0,
+        &mut work[..size],
+        &by_r[..r_size],
+    )?;
+    let mut work = plain;
+    coding_line(
+        rt,
+        "5.1 decode",
+        decode,
+        1,
+        0,
+        &mut work[..size],
+        &by_i[..i_size],
+    )
 }
 
 // Six lines of 5.2 and then one of 5.1.
-fn coding_lines(rt: &impl Print, letters: &[u8]) -> io::Result<()> {
-    let mut at: usize = 0;
-    let mut lines: usize = 0;
-    while lines < 6 {
-        at = cyclic_line(rt, letters, at)?;
-        lines += 1;
+fn coding_lines(rt: &impl Print, text: &[u8]) -> io::Result<()> {
+    let mut words = Words::new(text);
+    for _ in 0..6 {
+        cyclic_lines(rt, &mut words)?;
     }
-    permute_line(rt, letters, at)
+    permute_lines(rt, &mut words)
 }
 
 fn coding_vectors(rt: &(impl Files + Print + Eprint)) -> io::Result<()> {
-    let mut letters = [0u8; 4096];
-    let file = said::load(rt, b"5.2_cyclic_vectors.txt", &mut letters)?;
-    if !file.whole {
-        return Ok(());
-    }
-    let n = file.size;
-    coding_lines(rt, &letters[..n])
+    said::with_file(rt, "5.2_cyclic_vectors.txt", |text| coding_lines(rt, text))
 }
 
 fn main(rt: HostRuntime) -> io::Result<()> {

@@ -14,26 +14,20 @@ const BLOCKS: [u64; 19] = [
     0x3, 0x20, 0x74,
 ];
 
-fn image_lines(rt: &(impl Files + Print + Eprint), name: &[u8]) -> io::Result<()> {
-    let nodes = NODES;
-    let blocks = BLOCKS;
-    shown::trees::image_lines(rt, b"mini", name, &nodes, &blocks)
+fn image_lines(rt: &(impl Files + Print + Eprint), name: &str) -> io::Result<()> {
+    shown::trees::image_lines(rt, "mini", name, &NODES, &BLOCKS)
 }
 
-fn whole_file_line(rt: &(impl Files + Print + Eprint), name: &[u8]) -> io::Result<()> {
-    let mut buffer = [0u8; 65536];
-    let file = said::load(rt, name, &mut buffer)?;
-    if !file.whole {
-        return Ok(());
-    }
-    let n = file.size;
-    shown::pages::header_line(rt, b"mini as cut", &buffer[..n])
+fn whole_file_line(rt: &(impl Files + Print + Eprint), name: &str) -> io::Result<()> {
+    said::with_file(rt, name, |image| {
+        shown::pages::header_line(rt, "mini as cut", image)
+    })
 }
 
 // The first says where the whole file ended; the second, with its header sealed anew, that it ends where
 // it was cut. The third has zeros behind the first, to one byte more than the programs work on.
 pub fn real_pages(rt: &(impl Files + Print + Eprint)) -> io::Result<()> {
-    whole_file_line(rt, b"real_mini_64bit.img")?;
-    image_lines(rt, b"real_mini_ended.img")?;
-    image_lines(rt, b"real_mini_65537.img")
+    whole_file_line(rt, "real_mini_64bit.img")?;
+    image_lines(rt, "real_mini_ended.img")?;
+    image_lines(rt, "real_mini_65537.img")
 }

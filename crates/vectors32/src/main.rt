@@ -2,6 +2,7 @@
 // the call and the answer; where the bytes hold the answer too, whether it is that one.
 #![tactic(auto)]
 
+use header::Reference;
 use shown::{pages, trees};
 use std::io;
 use std::rt::Files;
@@ -80,54 +81,53 @@ const BLOCKS: [u64; 36] = [
 // end-of-file number set to where these end, and sealed anew.
 fn header_lines(rt: &(impl Files + Print + Eprint)) -> io::Result<()> {
     let mut header = [0u8; 564];
-    let file = listed::load_hex(rt, b"real_header_32bit.hex", &mut header)?;
-    if !file.whole {
+    let Some(size) = listed::load_hex(rt, "real_header_32bit.hex", &mut header)? else {
         return Ok(());
-    }
-    let size = file.size;
-    pages::header_line(rt, b"32-bit", &header[..size])?;
-    pages::header_sum_line(rt, b"32-bit", &header[..size], 471, 4)?;
-    pages::header_line(rt, b"32-bit padded", &header)?;
-    pages::header_lines(rt, b"32-bit ended", b"real_header_ended_32bit.hex")
+    };
+    pages::header_line(rt, "32-bit", &header[..size])?;
+    pages::header_sum_line(rt, "32-bit", &header[..size], 471, 4)?;
+    pages::header_line(rt, "32-bit padded", &header)?;
+    pages::header_lines(rt, "32-bit ended", "real_header_ended_32bit.hex")
 }
 
 fn page_lines(
     rt: &(impl Files + Print + Eprint),
-    section: &[u8],
-    name: &[u8],
+    section: &str,
+    name: &str,
     offset: u64,
     number: u64,
 ) -> io::Result<()> {
-    pages::page_lines(rt, section, name, 500, 508, offset, number)
+    let reference = Reference { number, offset };
+    pages::page_lines(rt, section, name, 500, 508, reference)
 }
 
 // The offsets of the leaf pages are known by their signatures alone.
 fn real_pages(rt: &(impl Files + Print + Eprint)) -> io::Result<()> {
     page_lines(
         rt,
-        b"32-bit BBT root",
-        b"real_bbt_root_32bit.hex",
+        "32-bit BBT root",
+        "real_bbt_root_32bit.hex",
         0x5400,
         0x21EB4,
     )?;
     page_lines(
         rt,
-        b"32-bit BBT leaf",
-        b"real_bbt_leaf_32bit.hex",
+        "32-bit BBT leaf",
+        "real_bbt_leaf_32bit.hex",
         0xD400,
         0x1675A,
     )?;
     page_lines(
         rt,
-        b"32-bit NBT root",
-        b"real_nbt_root_32bit.hex",
+        "32-bit NBT root",
+        "real_nbt_root_32bit.hex",
         0xC7E00,
         0x21EBC,
     )?;
     page_lines(
         rt,
-        b"32-bit NBT leaf",
-        b"real_nbt_leaf_32bit.hex",
+        "32-bit NBT leaf",
+        "real_nbt_leaf_32bit.hex",
         0xC8400,
         0x21EAE,
     )
@@ -137,28 +137,20 @@ fn real_pages(rt: &(impl Files + Print + Eprint)) -> io::Result<()> {
 // the two leaf pages in their place. Those of the block tree stand at their true offsets. Those of the node
 // tree would stand behind what the programs work on: they stand lower, signed for where they stand.
 fn real_images(rt: &(impl Files + Print + Eprint)) -> io::Result<()> {
-    let nodes_at_root = NODES_AT_ROOT;
-    let blocks_at_root = BLOCKS_AT_ROOT;
     trees::image_lines(
         rt,
-        b"roots",
-        b"real_roots_32bit.img",
-        &nodes_at_root,
-        &blocks_at_root,
+        "roots",
+        "real_roots_32bit.img",
+        &NODES_AT_ROOT,
+        &BLOCKS_AT_ROOT,
     )?;
-    let nodes = NODES;
-    let blocks = BLOCKS;
-    trees::image_lines(rt, b"leaves", b"real_leaves_32bit.img", &nodes, &blocks)
-}
-
-fn room_line(rt: &impl Print, size: u32) -> io::Result<()> {
-    pages::room_line(rt, b"32-bit", size, pst::room32(size))
+    trees::image_lines(rt, "leaves", "real_leaves_32bit.img", &NODES, &BLOCKS)
 }
 
 // The file's data tree of two children, which is dumped without its trailer, and its largest listed block.
 fn rooms(rt: &impl Print) -> io::Result<()> {
-    room_line(rt, 16)?;
-    room_line(rt, 8180)
+    pages::room_line(rt, "32-bit", 16, pst::room32)?;
+    pages::room_line(rt, "32-bit", 8180, pst::room32)
 }
 
 fn main(rt: HostRuntime) -> io::Result<()> {
