@@ -211,6 +211,7 @@ fn number_in(refusal: Refusal) -> u64
 impl From<Verdict> for RkwVerdict {
     ghost from_gives = { λ answer r. r ≡ verdict_answer answer };
 
+    #[tactic(auto, unfolding(crate::specs::Answers::verdict_answer))]
     fn from(answer: Verdict) -> RkwVerdict {
         match answer {
             Ok(()) => RkwVerdict {
@@ -230,6 +231,7 @@ impl From<Verdict> for RkwVerdict {
 impl From<Result<Header, Refusal>> for RkwHeader {
     ghost from_gives = { λ answer r. r ≡ header_answer answer };
 
+    #[tactic(auto, unfolding(crate::specs::Answers::header_answer))]
     fn from(answer: Result<Header, Refusal>) -> RkwHeader {
         match answer {
             Ok(h) => RkwHeader {
@@ -263,6 +265,7 @@ impl From<Result<Header, Refusal>> for RkwHeader {
 impl From<Result<Found<Node>, Refusal>> for RkwNode {
     ghost from_gives = { λ answer r. r ≡ node_answer answer };
 
+    #[tactic(auto, unfolding(crate::specs::Answers::node_answer, nodelist::specs::Places::node_words))]
     fn from(answer: Result<Found<Node>, Refusal>) -> RkwNode {
         match answer {
             Ok(Found::Entry(n, pages)) => RkwNode {
@@ -301,6 +304,7 @@ fn no_node(refusal: u64, place: u64, more: u64, pages: u64) -> RkwNode
 impl From<Result<Found<Listed>, Refusal>> for RkwBlock {
     ghost from_gives = { λ answer r. r ≡ block_answer answer };
 
+    #[tactic(auto, unfolding(crate::specs::Answers::block_answer))]
     fn from(answer: Result<Found<Listed>, Refusal>) -> RkwBlock {
         match answer {
             Ok(Found::Entry(b, pages)) => RkwBlock {
@@ -339,6 +343,7 @@ fn no_block(refusal: u64, place: u64, more: u64, pages: u64) -> RkwBlock
 impl From<Result<u64, Refusal>> for RkwSize {
     ghost from_gives = { λ answer r. r ≡ size_answer answer };
 
+    #[tactic(auto, unfolding(crate::specs::Answers::size_answer))]
     fn from(answer: Result<u64, Refusal>) -> RkwSize {
         match answer {
             Ok(size) => RkwSize {
@@ -360,6 +365,7 @@ impl From<Result<u64, Refusal>> for RkwSize {
 impl From<Result<u64, Refusal>> for RkwLength {
     ghost from_gives = { λ answer r. r ≡ length_answer answer };
 
+    #[tactic(auto, unfolding(crate::specs::Answers::length_answer))]
     fn from(answer: Result<u64, Refusal>) -> RkwLength {
         match answer {
             Ok(length) => RkwLength {
@@ -381,6 +387,7 @@ impl From<Result<u64, Refusal>> for RkwLength {
 impl From<Result<Option<u64>, Refusal>> for RkwData {
     ghost from_gives = { λ answer r. r ≡ data_answer answer };
 
+    #[tactic(auto, unfolding(crate::specs::Answers::data_answer))]
     fn from(answer: Result<Option<u64>, Refusal>) -> RkwData {
         match answer {
             Ok(Some(length)) => RkwData {
@@ -411,6 +418,7 @@ impl From<Result<Option<u64>, Refusal>> for RkwData {
 impl From<Result<Span, Refusal>> for RkwItem {
     ghost from_gives = { λ answer r. r ≡ item_answer answer };
 
+    #[tactic(auto, unfolding(crate::specs::Answers::item_answer))]
     fn from(answer: Result<Span, Refusal>) -> RkwItem {
         match answer {
             Ok(item) => RkwItem {
@@ -463,6 +471,7 @@ fn no_property(refusal: u64, place: u64, more: u64) -> RkwProperty
 impl From<Result<Option<Property>, Refusal>> for RkwProperty {
     ghost from_gives = { λ answer r. r ≡ property_answer answer };
 
+    #[tactic(auto, unfolding(crate::specs::Answers::property_answer))]
     fn from(answer: Result<Option<Property>, Refusal>) -> RkwProperty {
         match answer {
             Ok(Some(Property::Number(code, value))) => valued(code, 0, value),
@@ -498,6 +507,7 @@ fn number_of(named: Named) -> u64
 impl From<Result<Table, Refusal>> for RkwTable {
     ghost from_gives = { λ answer r. r ≡ table_answer answer };
 
+    #[tactic(auto, unfolding(crate::specs::Tables::table_answer))]
     fn from(answer: Result<Table, Refusal>) -> RkwTable {
         match answer {
             Ok(t) => {
@@ -551,6 +561,7 @@ fn no_column(refusal: u64, place: u64, more: u64) -> RkwColumn
 impl From<Result<Option<Column>, Refusal>> for RkwColumn {
     ghost from_gives = { λ answer r. r ≡ column_answer answer };
 
+    #[tactic(auto, unfolding(crate::specs::Tables::column_answer))]
     fn from(answer: Result<Option<Column>, Refusal>) -> RkwColumn {
         match answer {
             Ok(Some(c)) => RkwColumn {
@@ -572,6 +583,7 @@ impl From<Result<Option<Column>, Refusal>> for RkwColumn {
 impl From<Result<u64, Refusal>> for RkwCount {
     ghost from_gives = { λ answer r. r ≡ count_answer answer };
 
+    #[tactic(auto, unfolding(crate::specs::Tables::count_answer))]
     fn from(answer: Result<u64, Refusal>) -> RkwCount {
         match answer {
             Ok(rows) => RkwCount {
@@ -620,6 +632,7 @@ fn no_cell(refusal: u64, place: u64, more: u64) -> RkwCell
 impl From<Result<Option<Cell>, Refusal>> for RkwCell {
     ghost from_gives = { λ answer r. r ≡ cell_answer answer };
 
+    #[tactic(auto, unfolding(crate::specs::Tables::cell_answer, rowcells::specs::RowCells::cell_words))]
     fn from(answer: Result<Option<Cell>, Refusal>) -> RkwCell {
         match answer {
             Ok(Some(Cell::Number(value))) => valued_cell(0, value),
@@ -636,6 +649,7 @@ impl From<Result<Option<Cell>, Refusal>> for RkwCell {
 impl From<Result<Option<u32>, Refusal>> for RkwRow {
     ghost from_gives = { λ answer r. r ≡ row_answer answer };
 
+    #[tactic(auto, unfolding(crate::specs::Tables::row_answer))]
     fn from(answer: Result<Option<u32>, Refusal>) -> RkwRow {
         match answer {
             Ok(Some(row)) => RkwRow {
@@ -666,6 +680,7 @@ impl From<Result<Option<u32>, Refusal>> for RkwRow {
 impl From<Result<Option<u64>, Refusal>> for RkwCells {
     ghost from_gives = { λ answer r. r ≡ cells_answer answer };
 
+    #[tactic(auto, unfolding(crate::specs::Tables::cells_answer))]
     fn from(answer: Result<Option<u64>, Refusal>) -> RkwCells {
         match answer {
             Ok(Some(cells)) => RkwCells {

@@ -4,4 +4,4 @@ use Rattle.rkw.specs.Answers.{verdict_answer}
 use Rattle.rkw.proofs.rkw_check_nodes.Goals as goal
 
 pub returns : goal.returns
-returns c = c.verdict_answer.ensures ∙ ap verdict_answer (nodes_is _ _ c.check_nodes.ensures)
+returns c = c.from.ensures ∙ ap verdict_answer (nodes_is _ _ c.check_nodes.ensures)

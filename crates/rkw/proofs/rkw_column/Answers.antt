@@ -4,4 +4,4 @@ use Rattle.rkw.specs.Tables.{column_answer}
 use Rattle.rkw.proofs.rkw_column.Goals as goal
 
 pub returns : goal.returns
-returns c = c.column_answer.ensures ∙ ap column_answer (column_is _ _ _ c.column.ensures)
+returns c = c.from.ensures ∙ ap column_answer (column_is _ _ _ c.column.ensures)

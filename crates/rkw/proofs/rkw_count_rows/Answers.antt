@@ -4,4 +4,4 @@ use Rattle.rkw.specs.Tables.{count_answer}
 use Rattle.rkw.proofs.rkw_count_rows.Goals as goal
 
 pub returns : goal.returns
-returns c = c.count_answer.ensures ∙ ap count_answer (count_is _ _ _ c.count_rows.ensures)
+returns c = c.from.ensures ∙ ap count_answer (count_is _ _ _ c.count_rows.ensures)

@@ -4,4 +4,4 @@ use Rattle.rkw.specs.Answers.{verdict_answer}
 use Rattle.rkw.proofs.rkw_decode.Goals as goal
 
 pub returns : goal.returns
-returns c = record { answer = c.verdict_answer.ensures ∙ ap verdict_answer (code_is _ _ c.decode.ensures.answer); buffer = c.decode.ensures.buffer ∙ decode_buffer_is _ _ _ }
+returns c = record { answer = c.from.ensures ∙ ap verdict_answer (code_is _ _ c.decode.ensures.answer); buffer = c.decode.ensures.buffer ∙ decode_buffer_is _ _ _ }

@@ -4,4 +4,4 @@ use Rattle.rkw.specs.Tables.{row_answer}
 use Rattle.rkw.proofs.rkw_find_row32.Goals as goal
 
 pub returns : goal.returns
-returns c = c.row_answer.ensures ∙ ap row_answer (row32_is _ _ _ c.find_row32.ensures)
+returns c = c.from.ensures ∙ ap row_answer (row32_is _ _ _ c.find_row32.ensures)

@@ -4,4 +4,4 @@ use Rattle.rkw.specs.Answers.{header_answer}
 use Rattle.rkw.proofs.rkw_header.Goals as goal
 
 pub returns : goal.returns
-returns c = c.header_answer.ensures ∙ ap header_answer (header_is _ _ c.header.ensures)
+returns c = c.from.ensures ∙ ap header_answer (header_is _ _ c.header.ensures)

@@ -4,4 +4,4 @@ use Rattle.rkw.specs.Answers.{node_answer}
 use Rattle.rkw.proofs.rkw_next_node.Goals as goal
 
 pub returns : goal.returns
-returns c = c.node_answer.ensures ∙ ap node_answer (next_node_is _ _ _ c.next_node.ensures)
+returns c = c.from.ensures ∙ ap node_answer (next_node_is _ _ _ c.next_node.ensures)

@@ -4,4 +4,4 @@ use Rattle.rkw.specs.Answers.{data_answer}
 use Rattle.rkw.proofs.rkw_read_node.Goals as goal
 
 pub returns : goal.returns
-returns c = record { answer = c.data_answer.ensures ∙ ap data_answer (data_is _ _ _ _ c.read_node.ensures.answer); buffer = c.read_node.ensures.buffer ∙ data_buffer_is _ _ _ }
+returns c = record { answer = c.from.ensures ∙ ap data_answer (data_is _ _ _ _ c.read_node.ensures.answer); buffer = c.read_node.ensures.buffer ∙ data_buffer_is _ _ _ }

@@ -4,4 +4,4 @@ use Rattle.rkw.specs.Tables.{cells_answer}
 use Rattle.rkw.proofs.rkw_read_row.Goals as goal
 
 pub returns : goal.returns
-returns c = record { answer = c.cells_answer.ensures ∙ ap cells_answer (read_row_is _ _ _ _ _ c.read_row.ensures.answer); area = c.read_row.ensures.area ∙ row_area_is _ _ _ _ }
+returns c = record { answer = c.from.ensures ∙ ap cells_answer (read_row_is _ _ _ _ _ c.read_row.ensures.answer); area = c.read_row.ensures.area ∙ row_area_is _ _ _ _ }

@@ -4,4 +4,4 @@ use Rattle.rkw.specs.Tables.{table_answer}
 use Rattle.rkw.proofs.rkw_table.Goals as goal
 
 pub returns : goal.returns
-returns c = c.table_answer.ensures ∙ ap table_answer (table_is _ _ c.table.ensures)
+returns c = c.from.ensures ∙ ap table_answer (table_is _ _ c.table.ensures)
