@@ -79,10 +79,14 @@ module _ (block : List ℕ) (item : ℕ) where
   unfolding item_test
   item_refused_exactly r = refused_exactly (item_rules block item) r
 
-  -- what is answered for an accepted item
+  -- what is answered for an accepted item, and for a refused one
   pub item_taken : item_test block item ≡ Ok tt → item_or block item ≡ item_part block item
   unfolding item_or
   item_taken e = goes (λ refusal. []) _ _ e
+
+  pub item_empty : (r : Refusal) → item_test block item ≡ Err r → item_or block item ≡ []
+  unfolding item_or
+  item_empty r e = ends (λ refusal. []) _ _ r e
 
   pub span_taken : item_test block item ≡ Ok tt → item_span block item ≡ Ok (record { start = (item_start block item); length = (item_length block item) })
   unfolding item_span
