@@ -136,10 +136,10 @@ module _ (block rows : List ℕ) (row words n : ℕ) where
   cells_say e = by (rows_test block rows) refl
     where
       wrong : {A : Type 0} → (x : Result (Option ℕ) Refusal) → row_read block rows row words ≡ x → x ≡ Ok None → A
-      wrong x f g = let clash : ◌≡◌ {A = ℕ} 0 1 = cc in absurd (omega arith)
+      wrong x f g = cc
 
       refusing : {A : Type 0} → (x : Result (Option ℕ) Refusal) (r : Refusal) → row_read block rows row words ≡ x → x ≡ Err r → A
-      refusing x r f g = let clash : ◌≡◌ {A = ℕ} 0 1 = cc in absurd (omega arith)
+      refusing x r f g = cc
 
       long : rows_test block rows ≡ Ok tt → row + 1 ≤ row_count (table_record block) (row_bytes block rows) → (b : Bool) → leb (column_count (table_record block)) (words / 6) ≡ b
           → Taken block rows row words n

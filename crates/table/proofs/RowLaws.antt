@@ -3,7 +3,6 @@ use Prim.Native.Nat.{ℕ}
 use mathlib.Core.Path.{◌≡◌, refl, sym, ap, ◌∙◌}
 use mathlib.Core.Logic.{◌↔◌}
 use mathlib.Core.List.{List, map, ◌++◌}
-use native.Mathlib.Omega.{arith}
 use Rattle.le.specs.Bytes.{field}
 use Rattle.refusal.specs.declared.Refusal.{Refusal}
 use Rattle.refusal.specs.Order.{Verdict, in_order, after, ◌then◌, AllHold, FirstFault}
@@ -57,7 +56,7 @@ module _ (tree : HeapTree) where
   answer_there None e = refl
   answer_there (Some entry) e =
       let there = sym (case_some told (Ok None) Err entry 0) ∙ e in
-      let clash : ◌≡◌ {A = ℕ} 0 1 = cc in absurd (omega arith)
+      cc
 
 module _ (tree : HeapTree) (block : List ℕ) where
   row_tried : (id : ℕ) → in_order (row_rules tree block id) ≡ refusal_in (row_of tree block id)
