@@ -6,8 +6,8 @@ use mathlib.Core.List.{List, [], ◌∷◌}
 use mathlib.Core.Logic.{◌↔◌}
 use borrow.Author.Tests.{leb-true, le-leb}
 use Rattle.refusal.specs.declared.Refusal.{Refusal}
-use Rattle.refusal.specs.Order.{Verdict, ◌then◌, rule, in_order, after, FirstFault}
-use Rattle.refusal.proofs.OrderLaws.{goes, ends, demanded, test_goes, then_left, then_right, refused_exactly, in_order_append}
+use Rattle.refusal.specs.Order.{◌then◌, rule, in_order, FirstFault}
+use Rattle.refusal.proofs.OrderLaws.{goes, ends, demanded, test_goes, then_left, then_right, told_behind, in_order_append}
 use Rattle.heap.specs.Items.{Numbered}
 use Rattle.heap.proofs.ItemLaws.{number_exactly}
 use Rattle.table.specs.declared.Named.{Named}
@@ -63,10 +63,6 @@ module _ (block rows : List ℕ) where
     (λ h. right_table ((table_exactly block).1 h.0) ∙ holds (rows_named block) h.1),
   )
 
-  pub count_refused : (r : Refusal) → rows_test block rows ≡ Err r → count_of block rows ≡ Err r
-  unfolding count_of
-  count_refused r e = ends Err _ _ r e
-
   pub count_on : rows_test block rows ≡ Ok tt → count_of block rows ≡ Ok (row_count (table_record block) (row_bytes block rows))
   unfolding count_of
   count_on e = goes Err _ _ e
@@ -76,14 +72,6 @@ module _ (block rows : List ℕ) where
   cell_on row tag e = goes Err _ _ e
 
   -- the count is refused exactly with the first fault
-  count_back : (v : Verdict) (n : ℕ) (r : Refusal) → after Err v (Ok n) ≡ Err r → v ≡ Err r
-  unfolding after
-  count_back (Ok tt) n r e = cc
-  count_back (Err s) n r e = cc
-
   pub count_told_exactly : (r : Refusal) → (count_of block rows ≡ Err r) ↔ FirstFault (rows_rules block rows) r
   unfolding count_of rows_test
-  count_told_exactly r = (
-    (λ e. (refused_exactly (rows_rules block rows) r).0 (count_back (rows_test block rows) (row_count (table_record block) (row_bytes block rows)) r e)),
-    (λ f. count_refused r ((refused_exactly (rows_rules block rows) r).1 f)),
-  )
+  count_told_exactly r = told_behind _ _ r

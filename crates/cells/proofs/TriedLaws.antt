@@ -7,7 +7,7 @@ use mathlib.Core.List.{List, [], ◌∷◌}
 use lib.Dec.{leb}
 use Rattle.refusal.specs.declared.Refusal.{Refusal}
 use Rattle.refusal.specs.Order.{Verdict, rule, in_order, demand, after, ◌then◌, AllHold, FirstFault}
-use Rattle.refusal.proofs.OrderLaws.{in_order_append, accepted_exactly, refused_exactly}
+use Rattle.refusal.proofs.OrderLaws.{in_order_append, refusal_in, refusal_after, answered_exactly, told_exactly}
 use Rattle.heap.specs.Items.{item_fits, bad_item}
 use Rattle.columns.specs.declared.Column.{Column}
 use Rattle.columns.specs.Columns.{column_at, refers, seat_of}
@@ -18,34 +18,8 @@ use Rattle.table.specs.Says.{named_by}
 use Rattle.cells.specs.Rows.{rows_rules, rows_test, row_bytes, row_count, row_at}
 use Rattle.cells.specs.Cells.{exists, named_cell, stored, cell_at, cell_by, cell_in, cell_of}
 use Rattle.cells.specs.Tried.{names_fit, cell_fits, value_rules, inside_rules, cell_rules}
-use Rattle.std.specs.Prelude.{Option, Some, None, Result, Ok, Err}
-use Rattle.cells.specs.declared.Cell.{Cell}
-use Rattle.cells.specs.declared.Cell.TheVariants.{Empty, Item, Missing, Number, Subnode}
-
--- the refusal of an answer, if it is one
-unfoldable pub refusal_in : Result (Option Cell) Refusal → Verdict
-refusal_in (Ok (Some (Number value))) = Ok tt
-refusal_in (Ok (Some Empty)) = Ok tt
-refusal_in (Ok (Some (Item item))) = Ok tt
-refusal_in (Ok (Some (Subnode subnode))) = Ok tt
-refusal_in (Ok (Some Missing)) = Ok tt
-refusal_in (Ok None) = Ok tt
-refusal_in (Err r) = Err r
-
-refusal_is : (c : Result (Option Cell) Refusal) (r : Refusal) → refusal_in c ≡ Err r → c ≡ Err r
-unfolding refusal_in
-refusal_is (Ok (Some (Number value))) r e = cc
-refusal_is (Ok (Some Empty)) r e = cc
-refusal_is (Ok (Some (Item item))) r e = cc
-refusal_is (Ok (Some (Subnode subnode))) r e = cc
-refusal_is (Ok (Some Missing)) r e = cc
-refusal_is (Ok None) r e = cc
-refusal_is (Err s) r e = cc
-
-refusal_after : (v : Verdict) (c : Result (Option Cell) Refusal) → refusal_in (after Err v c) ≡ (v then refusal_in c)
-unfolding refusal_in after
-refusal_after (Ok tt) c = refl
-refusal_after (Err r) c = refl
+use Rattle.std.specs.Prelude.{Option, Some, None, Ok, Err}
+use Rattle.cells.specs.declared.Cell.TheVariants.{Item, Missing, Number}
 
 module _ (block table row : List ℕ) where
   item_tried : (item : ℕ) (there : Bool) → (demand there bad_item then Ok tt) ≡ refusal_in (after Err (demand there bad_item) (Ok (Some (Item item))))
@@ -94,15 +68,8 @@ module _ (block rows : List ℕ) (row tag : ℕ) where
 
   -- answered exactly when each rule holds
   pub cell_answered_exactly : (refusal_in (cell_of block rows row tag) ≡ Ok tt) ↔ AllHold (cell_rules block rows row tag)
-  cell_answered_exactly = (
-    (λ e. (accepted_exactly (cell_rules block rows row tag)).0 (cell_tried ∙ e)),
-    (λ h. sym cell_tried ∙ (accepted_exactly (cell_rules block rows row tag)).1 h),
-  )
+  cell_answered_exactly = answered_exactly _ _ cell_tried
 
   -- refused exactly with the first fault
   pub cell_refused_exactly : (r : Refusal) → (cell_of block rows row tag ≡ Err r) ↔ FirstFault (cell_rules block rows row tag) r
-  unfolding refusal_in
-  cell_refused_exactly r = (
-    (λ e. (refused_exactly (cell_rules block rows row tag) r).0 (cell_tried ∙ ap refusal_in e)),
-    (λ f. refusal_is (cell_of block rows row tag) r (sym cell_tried ∙ (refused_exactly (cell_rules block rows row tag) r).1 f)),
-  )
+  cell_refused_exactly r = told_exactly _ _ cell_tried r

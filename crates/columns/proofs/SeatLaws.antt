@@ -26,7 +26,7 @@ use Rattle.std.specs.Prelude.{Option, Some, None}
 module _ (k : ℕ) where
   onward_not : (s : Option ℕ) → onward s ≡ None → s ≡ None
   unfolding onward
-  onward_not (Some i) e = let clash : ◌≡◌ {A = ℕ} 0 1 = cc in absurd (omega arith)
+  onward_not (Some i) e = cc
   onward_not None e = refl
 
   -- nowhere exactly when it is missing
@@ -36,7 +36,7 @@ module _ (k : ℕ) where
   seat_missing (x ∷ xs) e = by (eqb x k) refl e (seat_missing xs)
     where
       by : (b : Bool) → eqb x k ≡ b → cond b (Some 0) (onward (first_that Equal k xs)) ≡ None → (first_that Equal k xs ≡ None → Missing k xs) → Missing k (x ∷ xs)
-      by true t e rest = let clash : ◌≡◌ {A = ℕ} 0 1 = cc in absurd (omega arith)
+      by true t e rest = cc
       by false t e rest = (λ same. eqb-false x k t (sym same), rest (onward_not _ e))
 
   missing_seat : (xs : List ℕ) → Missing k xs → first_that Equal k xs ≡ None

@@ -1,6 +1,6 @@
 -- An item is accepted exactly when each rule holds, and then lies inside the block. Assumes nothing.
 use Prim.Native.Nat.{ℕ, zero, suc, ◌+◌, ◌-◌, ◌≤◌}
-use mathlib.Core.Path.{◌≡◌, refl, sym, ap, ◌∙◌}
+use mathlib.Core.Path.{◌≡◌, sym, ap, ◌∙◌}
 use mathlib.Core.Bool.{true, ◌&&◌}
 use mathlib.Core.List.{List, [], ◌∷◌}
 use mathlib.Core.Logic.{◌↔◌}
@@ -11,8 +11,8 @@ use borrow.Author.Tests.{leb-true, le-leb, eqb-true, eq-eqb}
 use Rattle.laws.proofs.Tests.{and_both, both_and}
 use Rattle.le.proofs.FieldLaws.{part_length}
 use Rattle.refusal.specs.declared.Refusal.{Refusal}
-use Rattle.refusal.specs.Order.{Verdict, rule, demand, after, ◌then◌, in_order, FirstFault}
-use Rattle.refusal.proofs.OrderLaws.{passes, goes, ends, demanded, then_left, then_right, refused_exactly, in_order_append}
+use Rattle.refusal.specs.Order.{Verdict, rule, demand, ◌then◌, in_order, FirstFault}
+use Rattle.refusal.proofs.OrderLaws.{passes, goes, ends, demanded, then_left, then_right, then_accepted, refused_exactly, in_order_append}
 use Rattle.heap.specs.Shape.{map_offset, item_count, offset, shape_rules, heap_test, Heap}
 use Rattle.heap.specs.Items.{item_kind, item_index, item_block, item_fits, Numbered, bad_item, item_rules, item_test, item_start, item_end, item_length, item_part, item_or, item_span, Lies}
 use Rattle.heap.proofs.ShapeLaws.{heap_exactly}
@@ -41,19 +41,13 @@ module _ (block : List ℕ) (item : ℕ) where
   pub number_exactly : (item_fits block item ≡ true) ↔ Numbered block item
   number_exactly = (numbered, fits)
 
--- a check with nothing behind it
-last_check : (v : Verdict) → (v then Ok tt) ≡ v
-unfolding after
-last_check (Ok tt) = refl
-last_check (Err r) = refl
-
 module _ (block : List ℕ) (item : ℕ) where
   -- the heap's shape first, then the number
   item_test_lem : item_test block item ≡ (heap_test block then demand (item_fits block item) bad_item)
   unfolding item_test item_rules heap_test in_order
   item_test_lem =
       in_order_append (shape_rules block) (rule (item_fits block item) bad_item ∷ [])
-      ∙ ap (λ (v : Verdict). in_order (shape_rules block) then v) (last_check (demand (item_fits block item) bad_item))
+      ∙ ap (λ (v : Verdict). in_order (shape_rules block) then v) (then_accepted (demand (item_fits block item) bad_item))
 
   pub item_shape : (r : Refusal) → heap_test block ≡ Err r → item_test block item ≡ heap_test block
   item_shape r e = item_test_lem ∙ ends Err _ _ r e ∙ sym e
@@ -79,10 +73,14 @@ module _ (block : List ℕ) (item : ℕ) where
   unfolding item_test
   item_refused_exactly r = refused_exactly (item_rules block item) r
 
-  -- what is answered for an accepted item
+  -- what is answered for an accepted item, and for a refused one
   pub item_taken : item_test block item ≡ Ok tt → item_or block item ≡ item_part block item
   unfolding item_or
   item_taken e = goes (λ refusal. []) _ _ e
+
+  pub item_empty : (r : Refusal) → item_test block item ≡ Err r → item_or block item ≡ []
+  unfolding item_or
+  item_empty r e = ends (λ refusal. []) _ _ r e
 
   pub span_taken : item_test block item ≡ Ok tt → item_span block item ≡ Ok (record { start = (item_start block item); length = (item_length block item) })
   unfolding item_span

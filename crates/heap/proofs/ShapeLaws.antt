@@ -59,7 +59,7 @@ heap_offsets block h =
     both_and _ _ (both_and _ _ (never_fall_of block (item_count block) h.climb) (le-leb _ _ h.first)) (le-leb _ _ h.last)
 
 pub offsets_fall : (block : List ℕ) → offsets_fit block ≡ false → Heap block → ⊥
-offsets_fall block e h = let clash : true ≡ false = sym (heap_offsets block h) ∙ e in let odd : ◌≡◌ {A = ℕ} 0 1 = cc in omega arith
+offsets_fall block e h = let clash : true ≡ false = sym (heap_offsets block h) ∙ e in cc
 
 pub is_heap : (block : List ℕ) → 12 ≤ length block → length block ≤ 8180 → byte block 2 ≡ 0xEC → 12 ≤ map_offset block
     → map_end block ≤ length block → item_count block ≤ 2047 → offsets_fit block ≡ true → Heap block

@@ -4,7 +4,6 @@ use mathlib.Core.Path.{◌≡◌, refl, sym, ap, ◌∙◌}
 use mathlib.Core.Bool.{Bool, true, false, ◌&&◌}
 use mathlib.Core.Logic.{◌↔◌}
 use mathlib.Core.List.{List, [], map}
-use native.Mathlib.Omega.{arith}
 use lib.Dec.{leb, eqb}
 use lib.ListN.{length}
 use borrow.Author.Tests.{eqb-false}
@@ -51,7 +50,7 @@ sorted tree block =
 says_none : (o : Option (List ℕ)) (m n : ℕ) → answer o m ≡ answer None n → o ≡ None
 unfolding answer
 says_none None m n e = refl
-says_none (Some x) m n e = let clash : ◌≡◌ {A = ℕ} 0 1 = cc in absurd (omega arith)
+says_none (Some x) m n e = cc
 
 -- the root item, if there is one
 module _ (tree : HeapTree) (block : List ℕ) (root : ℕ) (sound : HeapTreeSound tree block root) where

@@ -3,7 +3,6 @@ use Prim.Native.Nat.{ℕ, ◌-◌}
 use mathlib.Core.Path.{◌≡◌, refl, sym, ap, ◌∙◌, subst}
 use mathlib.Core.Bool.{true, false}
 use mathlib.Core.List.{List, [], ◌∷◌}
-use native.Mathlib.Omega.{arith}
 use borrow.Author.Tests.{eq-eqb, ne_eqb}
 use Rattle.refusal.specs.declared.Refusal.{Refusal}
 use Rattle.refusal.specs.Order.{Verdict, in_order, AllHold, none, both, here, later}
@@ -81,7 +80,7 @@ module _ (tree : HeapTree) (block : List ℕ) (levels : ℕ) (branch : Branch) w
   refused_held r e = by said refl
     where
       by : (v : Verdict) → said ≡ v → said ≡ Err r
-      by (Ok tt) q = let w = held_accepted many q refl in let clash : ◌≡◌ {A = ℕ} 0 1 = cc in absurd (omega arith)
+      by (Ok tt) q = let w = held_accepted many q refl in cc
       by (Err s) q = let w = held_refused s q in let same : r ≡ s = cc in q ∙ ap Err (sym same)
 
   pub accepted_held : (n : ℕ) → held_in tree block levels branch ≡ Ok n → (said ≡ Ok tt) × (n ≡ many)
@@ -89,7 +88,7 @@ module _ (tree : HeapTree) (block : List ℕ) (levels : ℕ) (branch : Branch) w
     where
       by : (v : Verdict) → said ≡ v → (said ≡ Ok tt) × (n ≡ many)
       by (Ok tt) q = let w = held_accepted many q refl in (q, cc)
-      by (Err s) q = let w = held_refused s q in let clash : ◌≡◌ {A = ℕ} 0 1 = cc in absurd (omega arith)
+      by (Err s) q = let w = held_refused s q in cc
 
   pub leaf_held : (n : ℕ) → held_in tree block levels branch ≡ Ok n → levels ≡ 0
       → Numbered block branch.item × (n ≡ record_count (leaf_shape tree) (item_part block branch.item))

@@ -4,7 +4,6 @@ use mathlib.Core.Path.{◌≡◌, refl, sym, ap, ◌∙◌}
 use mathlib.Core.Bool.{Bool, true, false, cond}
 use mathlib.Core.Logic.{◌↔◌}
 use mathlib.Core.List.{List, map}
-use native.Mathlib.Omega.{arith}
 use lib.Dec.{eqb}
 use borrow.Author.Tests.{eqb-true}
 use Rattle.le.specs.Bytes.{field}
@@ -35,24 +34,24 @@ module _ (type value : ℕ) where
       cond inside (Ok (Some (Number type value))) (cond empty (Ok (Some (Empty type))) (cond named (after Err (demand there bad_item) (Ok (Some (Item type value)))) (Ok (Some (Subnode type value)))))
 
   outcome_there : (inside empty named there : Bool) → outcome inside empty named there ≡ Ok None → ⊥
-  outcome_there true empty named there e = let clash : ◌≡◌ {A = ℕ} 0 1 = cc in omega arith
-  outcome_there false true named there e = let clash : ◌≡◌ {A = ℕ} 0 1 = cc in omega arith
-  outcome_there false false false there e = let clash : ◌≡◌ {A = ℕ} 0 1 = cc in omega arith
+  outcome_there true empty named there e = cc
+  outcome_there false true named there e = cc
+  outcome_there false false false there e = cc
   outcome_there false false true true e =
       let goes = sym (test_goes Err true bad_item (Ok (Some (Item type value))) refl) ∙ e in
-      let clash : ◌≡◌ {A = ℕ} 0 1 = cc in omega arith
+      cc
   outcome_there false false true false e =
       let ends = sym (test_ends Err false bad_item (Ok (Some (Item type value))) refl) ∙ e in
-      let clash : ◌≡◌ {A = ℕ} 0 1 = cc in omega arith
+      cc
 
   outcome_refused : (inside empty named there : Bool) (r : Refusal) → outcome inside empty named there ≡ Err r
       → (named ≡ true) × (there ≡ false) × (r ≡ bad_item)
-  outcome_refused true empty named there r e = let clash : ◌≡◌ {A = ℕ} 0 1 = cc in absurd (omega arith)
-  outcome_refused false true named there r e = let clash : ◌≡◌ {A = ℕ} 0 1 = cc in absurd (omega arith)
-  outcome_refused false false false there r e = let clash : ◌≡◌ {A = ℕ} 0 1 = cc in absurd (omega arith)
+  outcome_refused true empty named there r e = cc
+  outcome_refused false true named there r e = cc
+  outcome_refused false false false there r e = cc
   outcome_refused false false true true r e =
       let goes = sym (test_goes Err true bad_item (Ok (Some (Item type value))) refl) ∙ e in
-      let clash : ◌≡◌ {A = ℕ} 0 1 = cc in absurd (omega arith)
+      cc
   outcome_refused false false true false r e =
       let ends = sym (test_ends Err false bad_item (Ok (Some (Item type value))) refl) ∙ e in
       (refl, refl, cc)
@@ -70,7 +69,7 @@ module _ (block : List ℕ) where
 
   answer_refused : (id : ℕ) (r : Refusal) (o : Option (List ℕ)) (n : ℕ) → with_key id_of id (property_records block) ≡ o → property_from block (answer o n) ≡ Err r → WrongValue block id r
   unfolding value_of
-  answer_refused id r None n f e = let none-there = case_none (told block) (Ok None) Err n in let clash : ◌≡◌ {A = ℕ} 0 1 = cc in absurd (omega arith)
+  answer_refused id r None n f e = let none-there = case_none (told block) (Ok None) Err n in cc
   answer_refused id r (Some entry) n f e =
       let wrong = outcome_refused (field entry 2 2) (field entry 4 4) (in_place (field entry 2 2)) (eqb (field entry 4 4) 0) (eqb (field entry 4 4 % 32) 0) (item_fits block (field entry 4 4)) r (sym (case_some (told block) (Ok None) Err entry n) ∙ e) in
       record { entry = entry; found = f; names = eqb-true _ _ wrong.0; wrong = wrong.1; number = wrong.2 }

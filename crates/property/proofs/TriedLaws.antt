@@ -7,8 +7,8 @@ use mathlib.Core.List.{List, [], ◌∷◌, ◌++◌}
 use lib.Dec.{eqb}
 use Rattle.le.specs.Bytes.{field}
 use Rattle.refusal.specs.declared.Refusal.{Refusal}
-use Rattle.refusal.specs.Order.{Verdict, rule, in_order, demand, after, ◌then◌, AllHold, FirstFault}
-use Rattle.refusal.proofs.OrderLaws.{in_order_append, accepted_exactly, refused_exactly}
+use Rattle.refusal.specs.Order.{rule, in_order, demand, after, ◌then◌, AllHold, FirstFault}
+use Rattle.refusal.proofs.OrderLaws.{in_order_append, refusal_in, refusal_after, answered_exactly, told_exactly}
 use Rattle.search.specs.Answer.{Answer, found, absent, refused}
 use Rattle.search.proofs.Tried.{verdict_of}
 use Rattle.heap.specs.Shape.{user_root, shape_rules}
@@ -17,32 +17,8 @@ use Rattle.heaptree.specs.Lookup.{from_root, path_rules, by_case}
 use Rattle.heaptree.proofs.TriedLaws.{path_tried}
 use Rattle.property.specs.Context.{properties, context_rules, context_test}
 use Rattle.property.specs.Lookup.{in_place, value_of, value_fits, value_rules, property_rules, property_from, property}
-use Rattle.std.specs.Prelude.{Option, Some, None, Result, Ok, Err}
-use Rattle.property.specs.declared.Property.{Property}
+use Rattle.std.specs.Prelude.{Some, Ok, Err}
 use Rattle.property.specs.declared.Property.TheVariants.{Empty, Item, Number, Subnode}
-
--- the refusal of an answer, if it is one
-unfoldable pub refusal_in : Result (Option Property) Refusal → Verdict
-refusal_in (Ok (Some (Number type value))) = Ok tt
-refusal_in (Ok (Some (Empty type))) = Ok tt
-refusal_in (Ok (Some (Item type item))) = Ok tt
-refusal_in (Ok (Some (Subnode type subnode))) = Ok tt
-refusal_in (Ok None) = Ok tt
-refusal_in (Err r) = Err r
-
-refusal_is : (p : Result (Option Property) Refusal) (r : Refusal) → refusal_in p ≡ Err r → p ≡ Err r
-unfolding refusal_in
-refusal_is (Ok (Some (Number type value))) r e = cc
-refusal_is (Ok (Some (Empty type))) r e = cc
-refusal_is (Ok (Some (Item type item))) r e = cc
-refusal_is (Ok (Some (Subnode type subnode))) r e = cc
-refusal_is (Ok None) r e = cc
-refusal_is (Err s) r e = cc
-
-refusal_after : (v : Verdict) (p : Result (Option Property) Refusal) → refusal_in (after Err v p) ≡ (v then refusal_in p)
-unfolding refusal_in after
-refusal_after (Ok tt) p = refl
-refusal_after (Err r) p = refl
 
 module _ (block : List ℕ) where
   value_tried : (type value : ℕ) → in_order (rule (value_fits block type value) bad_item ∷ []) ≡ refusal_in (value_of block type value)
@@ -77,15 +53,8 @@ module _ (block : List ℕ) where
 
   -- answered, or absent, exactly when each rule holds
   pub property_answered_exactly : (id : ℕ) → (refusal_in (property block id) ≡ Ok tt) ↔ AllHold (property_rules block id)
-  property_answered_exactly id = (
-    (λ e. (accepted_exactly (property_rules block id)).0 (property_tried id ∙ e)),
-    (λ h. sym (property_tried id) ∙ (accepted_exactly (property_rules block id)).1 h),
-  )
+  property_answered_exactly id = answered_exactly _ _ (property_tried id)
 
   -- refused exactly with the first fault
   pub property_refused_exactly : (id : ℕ) (r : Refusal) → (property block id ≡ Err r) ↔ FirstFault (property_rules block id) r
-  unfolding refusal_in
-  property_refused_exactly id r = (
-    (λ e. (refused_exactly (property_rules block id) r).0 (property_tried id ∙ ap refusal_in e)),
-    (λ f. refusal_is (property block id) r (sym (property_tried id) ∙ (refused_exactly (property_rules block id) r).1 f)),
-  )
+  property_refused_exactly id r = told_exactly _ _ (property_tried id) r

@@ -14,7 +14,7 @@ use Rattle.le.specs.Bytes.{part}
 use Rattle.refusal.specs.declared.Fault.TheVariants.{ShortBuffer}
 use Rattle.refusal.specs.declared.Refusal.{Refusal}
 use Rattle.refusal.specs.Order.{Verdict, ◌needing◌, demand, in_order, after, ◌then◌, FirstFault}
-use Rattle.refusal.proofs.OrderLaws.{goes, ends, in_order_append, refused_exactly}
+use Rattle.refusal.proofs.OrderLaws.{goes, ends, then_accepted, in_order_append, refusal_in, refusal_after, told_exactly}
 use Rattle.keys.proofs.Pieces.{pieces_length, piece_at}
 use Rattle.columns.specs.Record.{column_count}
 use Rattle.columns.specs.Columns.{tags}
@@ -79,28 +79,6 @@ module _ (block rows : List ℕ) (row : ℕ) where
       pub area_filled : (area : List ℕ) → column_count (table_record block) ≤ length area / 6 → row_area block rows row area ≡ fronted (places_of block rows row) area
       area_filled area h = on_area area true (le-leb (row + 1) count there) ∙ goes (λ refusal. area) _ _ (area_long _ (length area) h)
 
--- the refusal of an answer, if it is one
-unfoldable pub refusal_in : Result (Option ℕ) Refusal → Verdict
-refusal_in (Ok (Some n)) = Ok tt
-refusal_in (Ok None) = Ok tt
-refusal_in (Err r) = Err r
-
-refusal_is : (x : Result (Option ℕ) Refusal) (r : Refusal) → refusal_in x ≡ Err r → x ≡ Err r
-unfolding refusal_in
-refusal_is (Ok (Some n)) r e = cc
-refusal_is (Ok None) r e = cc
-refusal_is (Err s) r e = cc
-
-refusal_after : (v : Verdict) (x : Result (Option ℕ) Refusal) → refusal_in (after Err v x) ≡ (v then refusal_in x)
-unfolding refusal_in after
-refusal_after (Ok tt) x = refl
-refusal_after (Err r) x = refl
-
-then_accepted : (v : Verdict) → (v then Ok tt) ≡ v
-unfolding after
-then_accepted (Ok tt) = refl
-then_accepted (Err r) = refl
-
 module _ (block rows : List ℕ) (row words : ℕ) where
   inside : Bool → Result (Option ℕ) Refusal
   inside b = cond b (after Err (in_order (area_rules (column_count (table_record block)) words)) (Ok (Some (column_count (table_record block))))) (Ok None)
@@ -120,11 +98,7 @@ module _ (block rows : List ℕ) (row words : ℕ) where
 
   -- refused exactly with the first fault
   pub read_refused_exactly : (r : Refusal) → (row_read block rows row words ≡ Err r) ↔ FirstFault (read_row_rules block rows row words) r
-  unfolding refusal_in
-  read_refused_exactly r = (
-    (λ e. (refused_exactly (read_row_rules block rows row words) r).0 (read_tried ∙ ap refusal_in e)),
-    (λ f. refusal_is (row_read block rows row words) r (sym read_tried ∙ (refused_exactly (read_row_rules block rows row words) r).1 f)),
-  )
+  read_refused_exactly r = told_exactly _ _ read_tried r
 
 -- what holds where so many cells are answered for an area of so many words
 abbrev pub Taken : List ℕ → List ℕ → ℕ → ℕ → ℕ → Type 0
@@ -136,10 +110,10 @@ module _ (block rows : List ℕ) (row words n : ℕ) where
   cells_say e = by (rows_test block rows) refl
     where
       wrong : {A : Type 0} → (x : Result (Option ℕ) Refusal) → row_read block rows row words ≡ x → x ≡ Ok None → A
-      wrong x f g = let clash : ◌≡◌ {A = ℕ} 0 1 = cc in absurd (omega arith)
+      wrong x f g = cc
 
       refusing : {A : Type 0} → (x : Result (Option ℕ) Refusal) (r : Refusal) → row_read block rows row words ≡ x → x ≡ Err r → A
-      refusing x r f g = let clash : ◌≡◌ {A = ℕ} 0 1 = cc in absurd (omega arith)
+      refusing x r f g = cc
 
       long : rows_test block rows ≡ Ok tt → row + 1 ≤ row_count (table_record block) (row_bytes block rows) → (b : Bool) → leb (column_count (table_record block)) (words / 6) ≡ b
           → Taken block rows row words n

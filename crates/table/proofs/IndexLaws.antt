@@ -21,10 +21,6 @@ use Rattle.table.proofs.ContextLaws.{table_exactly}
 use Rattle.std.specs.Prelude.{Option, Some, Result, Ok, Err}
 
 module _ (block : List ℕ) where
-  pub table_refused : (r : Refusal) → table_test block ≡ Err r → table_of block ≡ Err r
-  unfolding table_of
-  table_refused r e = ends Err _ _ r e
-
   pub table_on : table_test block ≡ Ok tt → table_of block ≡ Ok (table_in (table_record block))
   unfolding table_of
   table_on e = goes Err _ _ e

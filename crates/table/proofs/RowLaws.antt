@@ -3,11 +3,10 @@ use Prim.Native.Nat.{ℕ}
 use mathlib.Core.Path.{◌≡◌, refl, sym, ap, ◌∙◌}
 use mathlib.Core.Logic.{◌↔◌}
 use mathlib.Core.List.{List, map, ◌++◌}
-use native.Mathlib.Omega.{arith}
 use Rattle.le.specs.Bytes.{field}
 use Rattle.refusal.specs.declared.Refusal.{Refusal}
-use Rattle.refusal.specs.Order.{Verdict, in_order, after, ◌then◌, AllHold, FirstFault}
-use Rattle.refusal.proofs.OrderLaws.{in_order_append, accepted_exactly, refused_exactly}
+use Rattle.refusal.specs.Order.{Verdict, in_order, ◌then◌, AllHold, FirstFault}
+use Rattle.refusal.proofs.OrderLaws.{in_order_append, refusal_in, refusal_after, answered_exactly, told_exactly}
 use Rattle.keys.specs.Plain.{Missing}
 use Rattle.keys.specs.Search.{with_key}
 use Rattle.keys.proofs.FoundLaws.{missing_exactly}
@@ -25,23 +24,6 @@ use Rattle.table.specs.RowIndex.{row_id, row_from, index_root, index_test, row_r
 use Rattle.table.proofs.IndexLaws.{index_exactly, row_on}
 use Rattle.std.specs.Prelude.{Some, None, Result, Ok, Err, Option}
 
--- the refusal of an answer, if it is one
-unfoldable pub refusal_in : Result (Option ℕ) Refusal → Verdict
-refusal_in (Ok (Some row)) = Ok tt
-refusal_in (Ok None) = Ok tt
-refusal_in (Err r) = Err r
-
-refusal_is : (f : Result (Option ℕ) Refusal) (r : Refusal) → refusal_in f ≡ Err r → f ≡ Err r
-unfolding refusal_in
-refusal_is (Ok (Some row)) r e = cc
-refusal_is (Ok None) r e = cc
-refusal_is (Err s) r e = cc
-
-refusal_after : (v : Verdict) (f : Result (Option ℕ) Refusal) → refusal_in (after Err v f) ≡ (v then refusal_in f)
-unfolding refusal_in after
-refusal_after (Ok tt) f = refl
-refusal_after (Err r) f = refl
-
 module _ (tree : HeapTree) where
   answer_tried : (a : Answer (List ℕ)) → verdict_of a ≡ refusal_in (row_from tree a)
   unfolding verdict_of by_case refusal_in
@@ -57,7 +39,7 @@ module _ (tree : HeapTree) where
   answer_there None e = refl
   answer_there (Some entry) e =
       let there = sym (case_some told (Ok None) Err entry 0) ∙ e in
-      let clash : ◌≡◌ {A = ℕ} 0 1 = cc in absurd (omega arith)
+      cc
 
 module _ (tree : HeapTree) (block : List ℕ) where
   row_tried : (id : ℕ) → in_order (row_rules tree block id) ≡ refusal_in (row_of tree block id)
@@ -70,18 +52,11 @@ module _ (tree : HeapTree) (block : List ℕ) where
 
   -- answered, or absent, exactly when each rule holds
   pub row_answered_exactly : (id : ℕ) → (refusal_in (row_of tree block id) ≡ Ok tt) ↔ AllHold (row_rules tree block id)
-  row_answered_exactly id = (
-    (λ e. (accepted_exactly (row_rules tree block id)).0 (row_tried id ∙ e)),
-    (λ h. sym (row_tried id) ∙ (accepted_exactly (row_rules tree block id)).1 h),
-  )
+  row_answered_exactly id = answered_exactly _ _ (row_tried id)
 
   -- refused exactly with the first fault
   pub row_refused_exactly : (id : ℕ) (r : Refusal) → (row_of tree block id ≡ Err r) ↔ FirstFault (row_rules tree block id) r
-  unfolding refusal_in
-  row_refused_exactly id r = (
-    (λ e. (refused_exactly (row_rules tree block id) r).0 (row_tried id ∙ ap refusal_in e)),
-    (λ f. refusal_is (row_of tree block id) r (sym (row_tried id) ∙ (refused_exactly (row_rules tree block id) r).1 f)),
-  )
+  row_refused_exactly id r = told_exactly _ _ (row_tried id) r
 
 -- the tree's theorem, read as rows
 module _ (tree : HeapTree) (block : List ℕ) (sound : IndexSound tree block) where

@@ -5,20 +5,14 @@ use mathlib.Core.Logic.{◌↔◌}
 use mathlib.Core.List.{List}
 use borrow.Author.Tests.{le-leb, lt-leb}
 use Rattle.refusal.specs.declared.Refusal.{Refusal}
-use Rattle.refusal.specs.Order.{Verdict, after, FirstFault}
+use Rattle.refusal.specs.Order.{FirstFault}
+use Rattle.refusal.proofs.OrderLaws.{told_behind}
 use Rattle.columns.specs.Record.{column_count}
 use Rattle.columns.specs.Columns.{column_at}
-use Rattle.table.specs.Context.{table_record, table_rules, table_test}
-use Rattle.table.specs.Says.{table_in, table_of, column_in, column_of}
-use Rattle.table.proofs.ContextLaws.{table_refused_exactly}
-use Rattle.table.proofs.IndexLaws.{table_refused, column_refused}
+use Rattle.table.specs.Context.{table_rules, table_test}
+use Rattle.table.specs.Says.{table_of, column_in, column_of}
 use Rattle.std.specs.Prelude.{Option, Some, None, Result, Ok, Err}
 use Rattle.columns.specs.declared.Column.{Column}
-
-table_back : {T : Type 0} (v : Verdict) (said : T) (r : Refusal) → after Err v (Ok said) ≡ Err r → v ≡ Err r
-unfolding after
-table_back (Ok tt) said r e = cc
-table_back (Err s) said r e = cc
 
 -- a column past the last, and one that is there
 module _ (table : List ℕ) (index : ℕ) where
@@ -35,15 +29,9 @@ module _ (table : List ℕ) (index : ℕ) where
 
 module _ (block : List ℕ) where
   pub table_told_exactly : (r : Refusal) → (table_of block ≡ Err r) ↔ FirstFault (table_rules block) r
-  unfolding table_of
-  table_told_exactly r = (
-    (λ e. (table_refused_exactly block r).0 (table_back (table_test block) (table_in (table_record block)) r e)),
-    (λ f. table_refused block r ((table_refused_exactly block r).1 f)),
-  )
+  unfolding table_of table_test
+  table_told_exactly r = told_behind _ _ r
 
   pub column_told_exactly : (index : ℕ) (r : Refusal) → (column_of block index ≡ Err r) ↔ FirstFault (table_rules block) r
-  unfolding column_of
-  column_told_exactly index r = (
-    (λ e. (table_refused_exactly block r).0 (table_back (table_test block) (column_in (table_record block) index) r e)),
-    (λ f. column_refused block index r ((table_refused_exactly block r).1 f)),
-  )
+  unfolding column_of table_test
+  column_told_exactly index r = told_behind _ _ r
