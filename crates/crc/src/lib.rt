@@ -6,8 +6,7 @@ ghost use Rattle.remainder.specs.Remainder.{bits};
 ghost use Rattle.crc.specs.Checksum.{checksum as checksum_of, checksum_from};
 
 // What is left of eight bytes when 64 bits have fallen out, in three parts: of the upper half, of the
-// upper and of the lower two bytes of the lower half. Each of the eight lookups is made in one place, so
-// that the compiler keeps the tables without a call.
+// upper and of the lower two bytes of the lower half.
 fn after_upper_half(high: u32) -> u32
     ensures { result ≡ bits 32 high }
 {
