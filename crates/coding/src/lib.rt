@@ -87,6 +87,7 @@ fn cycle(bytes: &mut [u8], start: u16)
     }
 }
 
+#[tactic(auto, unfolding(crate::specs::Coding::word))]
 fn word_of(block: u64) -> u16
     ensures { result ≡ word block }
 {

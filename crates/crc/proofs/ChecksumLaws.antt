@@ -10,8 +10,7 @@ use lib.Pow.{pow-add}
 use lib.Seq.{drop-cons, drop-drop}
 use Rattle.std.specs.List.{fold}
 use Rattle.std.specs.Simd.{first_chunks}
-use lib.Bits.{bit_xor, xor_zero_r, xor_comm, xor_shifted}
-use Rattle.laws.proofs.Xor.{xor_assoc}
+use lib.Bits.{bit_xor, xor_zero_r, xor_comm, xor_assoc, xor_shifted}
 use Rattle.le.specs.Bytes.{Bytes, field, byte}
 use Rattle.le.proofs.FieldLaws.{field_none, field_more}
 use Rattle.le.proofs.ByteLaws.{field_below}

@@ -59,6 +59,7 @@ pub fn checksum_from(start: u32, bytes: &[u8]) -> u32
     rest_on(eights_on(start, eights), rest)
 }
 
+#[tactic(auto, unfolding(crate::specs::Checksum::checksum))]
 pub fn checksum(bytes: &[u8]) -> u32
     ensures { result ≡ checksum_of bytes.now }
 {

@@ -1,7 +1,6 @@
 use Rattle.std.proofs.Common.{ℕ, ◌/◌, ◌%◌, ◌^◌, List, get_or, ap, arith}
 use native.Mathlib.Nat.{div-one}
-use lib.Bits.{xor_zero_r}
-use Rattle.laws.proofs.Xor.{xor_assoc}
+use lib.Bits.{xor_assoc, xor_zero_r}
 use Rattle.remainder.specs.Remainder.{table_entry}
 use Rattle.remainder.proofs.Remainders.{spread, bits_spread}
 use Rattle.crc.proofs.after_eight.Goals as goal
