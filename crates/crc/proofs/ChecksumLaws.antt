@@ -10,9 +10,9 @@ use lib.Pow.{pow-add}
 use lib.Seq.{drop-cons, drop-drop}
 use Rattle.std.specs.List.{fold}
 use Rattle.std.specs.Simd.{first_chunks}
-use lib.Bits.{bit_xor, xor_zero_r, xor_comm, xor_assoc, xor_shifted}
+use lib.Bits.{bit_xor, xor_zero_l, xor_zero_r, xor_comm, xor_assoc, xor_shifted, xor_block}
 use Rattle.le.specs.Bytes.{Bytes, field, byte}
-use Rattle.le.proofs.FieldLaws.{field_none, field_more}
+use Rattle.le.proofs.FieldLaws.{field_none, field_more, field_add}
 use Rattle.le.proofs.ByteLaws.{field_below}
 use Rattle.remainder.specs.Remainder.{bits}
 use Rattle.remainder.proofs.Remainders.{bits_xor, bits_shift, bits_add, bits_raised}
@@ -68,6 +68,18 @@ pub checksum_whole : (c : ℕ) (s : List ℕ) → Bytes s → checksum_from c s 
 checksum_whole c s b =
     let n = length s in
     checksum_word n c s 0 b (omega arith) ∙ checksum_done (bits (8 * n) (bit_xor c (field s 0 n))) s (0 + n) (omega arith)
+
+-- eight bytes at once, in two halves
+pub checksum_eight : (c : ℕ) (s : List ℕ) → c < 4294967296 → Bytes s → length s ≡ 8 → checksum_from c s ≡ bits 64 (bit_xor c (field s 0 4) + 4294967296 * field s 4 4)
+checksum_eight c s h b l =
+    let e : field s 0 4 + 4294967296 * field s 4 4 ≡ field s 4 4 * 2 ^ 32 + field s 0 4 = omega arith in
+    let none : c ≡ 0 * 2 ^ 32 + c = omega arith in
+    rw l at (checksum_whole c s b)
+    ∙ ap (bits 64)
+    (ap₂ bit_xor none (field_add 4 4 s 0 ∙ e)
+    ∙ xor_block 32 0 (field s 4 4) c (field s 0 4) h (field_below s 0 4 b)
+    ∙ ap (λ (x : ℕ). x * 2 ^ 32 + bit_xor c (field s 0 4)) (xor_zero_l (field s 4 4))
+    ∙ omega arith)
 
 -- k parts of n bytes, one after the other, and then what is left
 pub checksum_parts : (n k c : ℕ) (s : List ℕ) → checksum_from (fold checksum_from c (first_chunks n k s)) (drop (k * n) s) ≡ checksum_from c s

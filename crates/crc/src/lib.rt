@@ -1,21 +1,22 @@
 // The checksum of headers, pages and blocks, eight bytes at a time, by the eight tables of 003, 5.3.
 #![tactic(auto)]
 
-ghost use Rattle.std.specs.Prelude.{◌≡◌, ◌<◌, length};
+ghost use Rattle.std.specs.Prelude.{◌≡◌, ◌+◌, ◌*◌, ◌<◌, length};
 ghost use Rattle.std.specs.List.{fold};
 ghost use Rattle.remainder.specs.Remainder.{bits};
 ghost use Rattle.crc.specs.Checksum.{checksum as checksum_of, checksum_from};
 
-// What is left of eight bytes when 64 bits have fallen out. The upper four come first, since they do not
-// wait for the sum, which is added to the lower four.
-fn after_eight(eight: u64) -> u32
-    ensures { result ≡ bits 64 eight }
+// What is left of eight bytes, in two halves, when 64 bits have fallen out. The upper half comes first,
+// since it does not wait for the sum, which is added to the lower one.
+fn after_eight(low: u32, high: u32) -> u32
+    ensures { result ≡ bits 64 (low + 4294967296 * high) }
 {
-    let [a, b, c, d, e, f, g, h] = eight.to_le_bytes();
+    let [e, f, g, h] = high.to_le_bytes();
     let upper = tables48::offset56(e)
         ^ tables48::offset48(f)
         ^ tables32::offset40(g)
         ^ tables32::offset32(h);
+    let [a, b, c, d] = low.to_le_bytes();
     tables80::offset88(a)
         ^ tables80::offset80(b)
         ^ tables64::offset72(c)
@@ -27,7 +28,7 @@ fn after_eight(eight: u64) -> u32
 fn eight_on(sum: u32, eight: &[u8; 8]) -> u32
     ensures { result ≡ checksum_from sum eight.now }
 {
-    after_eight(u64::from(sum) ^ u64::from_le_bytes(*eight))
+    after_eight(sum ^ le::field4(eight, 0), le::field4(eight, 4))
 }
 
 fn eights_on(start: u32, eights: &[[u8; 8]]) -> u32
@@ -48,7 +49,8 @@ fn rest_on(sum: u32, bytes: &[u8]) -> u32
     }
     let x = u64::from(sum) ^ le::field_of(bytes, 0, n);
     let above = u64::from(sum) >> (8 * n);
-    (above as u32) ^ after_eight(x << (64 - 8 * n))
+    let moved = x << (64 - 8 * n);
+    (above as u32) ^ after_eight((moved % 4294967296) as u32, (moved / 4294967296) as u32)
 }
 
 // The checksum `start`, taken on over the bytes.
