@@ -1,12 +1,11 @@
 -- What the coded bytes are by each method, and what a method's test answers. Assumes nothing.
-use Rattle.std.proofs.Common.{◌≡◌, ℕ, suc, ◌+◌, ◌/◌, ◌%◌, ◌<◌, ◌≤◌, Bool, true, false, cond, eqb, List, [], ◌∷◌, map, length, sym, refl, ap, ap₂, arith, eq-eqb, ne_eqb, le-leb}
+use Rattle.std.proofs.Common.{◌≡◌, ℕ, suc, ◌+◌, ◌%◌, ◌<◌, ◌≤◌, Bool, true, false, cond, eqb, List, [], ◌∷◌, map, length, refl, ap, arith, eq-eqb, ne_eqb, le-leb}
 use lib.ListN.{length-map}
 use borrow.Author.Tests.{lt-leb}
 use Rattle.refusal.specs.declared.Fault.TheVariants.{Encoding}
 use Rattle.refusal.specs.Order.{◌at◌}
 use Rattle.refusal.proofs.OrderLaws.{passes, breaks}
-use Rattle.coding.specs.Coding.{plus, minus, cyclic_byte, cyclic, word, coded, method_fits}
-use Rattle.coding.specs.Table.{R, S, I}
+use Rattle.coding.specs.Coding.{cyclic, word, coded, method_fits}
 use Rattle.std.specs.Prelude.{Ok, Err}
 
 module _ (f : ℕ → ℕ) (method block : ℕ) (s : List ℕ) where
@@ -44,14 +43,3 @@ coded_length f method block s = by_method (eqb method 1) (eqb method 2)
     by_method true b = length-map s f
     by_method false true = cyclic_length (word block) s
     by_method false false = refl
-
--- the steps on one byte, one after the other
-pub cyclic_steps : (w b low high p x q y m z r : ℕ) → low ≡ w % 256 → high ≡ w / 256
-    → p ≡ plus b low → x ≡ R p → q ≡ plus x high → y ≡ S q → m ≡ minus y high → z ≡ I m → r ≡ minus z low → r ≡ cyclic_byte w b
-unfolding cyclic_byte
-cyclic_steps w b low high p x q y m z r el eh ep ex eq ey em ez er = rw (er, ez, em, ey, eq, ex, ep, eh, el)
-
--- one byte, and w for the next
-pub cyclic_on : (w b r next : ℕ) (s : List ℕ) → r ≡ cyclic_byte w b → next ≡ (w + 1) % 65536 → cyclic w (b ∷ s) ≡ r ∷ cyclic next s
-unfolding cyclic
-cyclic_on w b r next s e g = ap₂ (λ (x v : ℕ). x ∷ cyclic v s) (sym e) (sym g)

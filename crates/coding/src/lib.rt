@@ -1,9 +1,9 @@
 // Encoding and decoding of a block's bytes, in place.
 #![tactic(auto)]
 
-ghost use Rattle.std.specs.Prelude.{◌≡◌, ◌<◌, ◌≤◌, map};
-ghost use Rattle.coding.specs.Table.{coding_table, entry};
-ghost use Rattle.coding.specs.Coding.{plus as plus_of, minus as minus_of, cyclic_byte, cyclic, word, coded, encoded, decoded, method_fits};
+ghost use Rattle.std.specs.Prelude.{◌≡◌, ◌≤◌, map};
+ghost use Rattle.coding.specs.Table.{entry};
+ghost use Rattle.coding.specs.Coding.{cyclic_byte, cyclic, word, coded, encoded, decoded, method_fits};
 
 use refusal::{Fault, Verdict};
 
@@ -49,71 +49,45 @@ const TABLE: [u8; 768] = [
     108, 249, 236,
 ];
 
-fn wide(byte: u8) -> usize
-    ensures { (result ≡ byte) × (result < 256) }
-{
-    byte as usize
-}
-
 // What stands for the byte in the table that starts at `from`: R at 0, S at 256, I at 512.
-fn entry_of(t: &[u8; 768], from: usize, byte: u8) -> u8
-    requires { (t.now ≡ coding_table) × (from ≤ 512) }
+fn entry_of(from: usize, byte: u8) -> u8
+    requires { from ≤ 512 }
     ensures { result ≡ entry from byte }
 {
-    t[from + wide(byte)]
+    TABLE[from + usize::from(byte)]
 }
 
-fn plus(a: u8, b: u8) -> u8
-    ensures { result ≡ plus_of a b }
-{
-    ((a as u16 + b as u16) % 256) as u8
-}
-
-fn minus(a: u8, b: u8) -> u8
-    ensures { result ≡ minus_of a b }
-{
-    ((a as u16 + (256 - b as u16)) % 256) as u8
-}
-
-fn cyclic_byte(t: &[u8; 768], w: u16, byte: u8) -> u8
-    requires { t.now ≡ coding_table }
+fn cyclic_byte(w: u16, byte: u8) -> u8
     ensures { result ≡ cyclic_byte w byte }
 {
-    let low = (w % 256) as u8;
-    let high = (w / 256) as u8;
-    let x = entry_of(t, 0, plus(byte, low));
-    let y = entry_of(t, 256, plus(x, high));
-    let z = entry_of(t, 512, minus(y, high));
-    minus(z, low)
+    let [low, high] = w.to_le_bytes();
+    let x = entry_of(0, byte.wrapping_add(low));
+    let y = entry_of(256, x.wrapping_add(high));
+    let z = entry_of(512, y.wrapping_sub(high));
+    z.wrapping_sub(low)
 }
 
-// Each byte by the table that starts at `from`. Here and below the table is borrowed once: an index
-// into the constant itself would copy it at each byte.
+// Each byte by the table that starts at `from`.
 fn permute(bytes: &mut [u8], from: usize)
     requires { from ≤ 512 }
     ensures { bytes.new ≡ map (entry from) bytes.old }
 {
-    let t = &TABLE;
-    let mut i: usize = 0;
-    while i < bytes.len() {
-        bytes[i] = entry_of(t, from, bytes[i]);
-        i += 1;
+    for byte in bytes.iter_mut() {
+        *byte = entry_of(from, *byte);
     }
 }
 
 fn cycle(bytes: &mut [u8], start: u16)
     ensures { bytes.new ≡ cyclic start bytes.old }
 {
-    let t = &TABLE;
     let mut w = start;
-    let mut i: usize = 0;
-    while i < bytes.len() {
-        bytes[i] = cyclic_byte(t, w, bytes[i]);
-        w = std::num::wrapping_add_u16(w, 1);
-        i += 1;
+    for byte in bytes.iter_mut() {
+        *byte = cyclic_byte(w, *byte);
+        w = w.wrapping_add(1);
     }
 }
 
+#[tactic(auto, unfolding(crate::specs::Coding::word))]
 fn word_of(block: u64) -> u16
     ensures { result ≡ word block }
 {
@@ -126,18 +100,18 @@ fn code(method: u8, from: usize, block: u64, bytes: &mut [u8]) -> Verdict
     ensures answer { result ≡ method_fits method }
     ensures buffer { bytes.new ≡ coded (entry from) method block bytes.old }
 {
-    if 2 < method {
-        return refusal::refused_at(Fault::Encoding, 0);
+    match method {
+        0 => Ok(()),
+        1 => {
+            permute(bytes, from);
+            Ok(())
+        }
+        2 => {
+            cycle(bytes, word_of(block));
+            Ok(())
+        }
+        _ => refusal::refused_at(Fault::Encoding, 0),
     }
-    if method == 1 {
-        permute(bytes, from);
-        return Ok(());
-    }
-    if method == 2 {
-        cycle(bytes, word_of(block));
-        return Ok(());
-    }
-    Ok(())
 }
 
 pub fn encode(method: u8, block: u64, bytes: &mut [u8]) -> Verdict

@@ -2,24 +2,21 @@
 use mathlib.Core.Path.{◌≡◌, refl, sym, ap, ap₂, ◌∙◌}
 use mathlib.Core.List.{List, [], ◌∷◌, ◌++◌}
 use Prim.Native.Nat.{ℕ, zero, suc, ◌+◌, ◌-◌, ◌*◌, ◌/◌, ◌%◌, ◌^◌, ◌<◌, ◌≤◌}
-use native.Mathlib.Nat.{add-zero, pow-suc, mul_comm}
+use native.Mathlib.Nat.{add-zero, zero-mul, pow-suc, mul_comm}
 use native.Mathlib.Omega.{arith}
 use native.Mathlib.Numerals.{add-one}
-use lib.ListN.{length, take, drop, get_or, drop_of_length-le, length-drop}
+use lib.ListN.{length, take, drop, get_or, drop_of_length-le, take-append-drop}
 use lib.Pow.{pow-add}
-use lib.Seq.{drop-cons, take_all}
-use lib.Bits.{bit_xor, xor_zero_l, xor_zero_r, xor_comm, xor_shifted, xor_block}
-use Rattle.laws.proofs.Xor.{xor_assoc}
+use lib.Seq.{drop-cons, drop-drop}
+use Rattle.std.specs.List.{fold}
+use Rattle.std.specs.Simd.{first_chunks}
+use lib.Bits.{bit_xor, xor_zero_l, xor_zero_r, xor_comm, xor_assoc, xor_shifted, xor_block}
 use Rattle.le.specs.Bytes.{Bytes, field, byte}
 use Rattle.le.proofs.FieldLaws.{field_none, field_more, field_add}
 use Rattle.le.proofs.ByteLaws.{field_below}
 use Rattle.remainder.specs.Remainder.{bits}
 use Rattle.remainder.proofs.Remainders.{bits_xor, bits_shift, bits_add, bits_raised}
 use Rattle.crc.specs.Checksum.{checksum_from}
-
--- the part from n to the end
-pub drop_whole : (n : ℕ) (s : List ℕ) → take (length s - n) (drop n s) ≡ drop n s
-drop_whole n s = take_all (length s - n) (drop n s) (omega (arith, length-drop n s))
 
 -- a checksum goes on where it stopped
 pub checksum_append : (c : ℕ) (s t : List ℕ) → checksum_from c (s ++ t) ≡ checksum_from (checksum_from c s) t
@@ -66,21 +63,34 @@ checksum_word (suc n) c s i b h =
     ∙ byte_more c (get_or s i 0) (field s (i + 1) n) (b.below i (omega arith)))))
     j
 
--- the number of eight bytes, in two halves, with a sum added to it
-halves : (c : ℕ) (s : List ℕ) (i : ℕ) → c < 4294967296 → Bytes s → i + 8 ≤ length s → bit_xor c (field s i 8) ≡ bit_xor c (field s i 4) + 4294967296 * field s (i + 4) 4
-halves c s i h b l =
-    let e : field s i 4 + 4294967296 * field s (i + 4) 4 ≡ field s (i + 4) 4 * 2 ^ 32 + field s i 4 = omega arith in
-    let none : c ≡ 0 * 2 ^ 32 + c = omega arith in
-    ap₂ bit_xor none (field_add 4 4 s i ∙ e)
-    ∙ xor_block 32 0 (field s (i + 4) 4) c (field s i 4) h (field_below s i 4 b)
-    ∙ ap (λ (x : ℕ). x * 2 ^ 32 + bit_xor c (field s i 4)) (xor_zero_l (field s (i + 4) 4))
-    ∙ omega arith
+-- all the bytes at once
+pub checksum_whole : (c : ℕ) (s : List ℕ) → Bytes s → checksum_from c s ≡ bits (8 * length s) (bit_xor c (field s 0 (length s)))
+checksum_whole c s b =
+    let n = length s in
+    checksum_word n c s 0 b (omega arith) ∙ checksum_done (bits (8 * n) (bit_xor c (field s 0 n))) s (0 + n) (omega arith)
 
--- eight bytes at once, read in two halves
-pub checksum_eight : (c : ℕ) (s : List ℕ) (i : ℕ) → c < 4294967296 → Bytes s → i + 8 ≤ length s
-    → checksum_from c (drop i s) ≡ checksum_from (bits 64 (bit_xor c (field s i 4) + 4294967296 * field s (i + 4) 4)) (drop (i + 8) s)
-checksum_eight c s i h b l =
-    checksum_word 8 c s i b l ∙ ap (λ (x : ℕ). checksum_from (bits 64 x) (drop (i + 8) s)) (halves c s i h b l)
+-- eight bytes at once, in two halves
+pub checksum_eight : (c : ℕ) (s : List ℕ) → c < 4294967296 → Bytes s → length s ≡ 8 → checksum_from c s ≡ bits 64 (bit_xor c (field s 0 4) + 4294967296 * field s 4 4)
+checksum_eight c s h b l =
+    let e : field s 0 4 + 4294967296 * field s 4 4 ≡ field s 4 4 * 2 ^ 32 + field s 0 4 = omega arith in
+    let none : c ≡ 0 * 2 ^ 32 + c = omega arith in
+    rw l at (checksum_whole c s b)
+    ∙ ap (bits 64)
+    (ap₂ bit_xor none (field_add 4 4 s 0 ∙ e)
+    ∙ xor_block 32 0 (field s 4 4) c (field s 0 4) h (field_below s 0 4 b)
+    ∙ ap (λ (x : ℕ). x * 2 ^ 32 + bit_xor c (field s 0 4)) (xor_zero_l (field s 4 4))
+    ∙ omega arith)
+
+-- k parts of n bytes, one after the other, and then what is left
+pub checksum_parts : (n k c : ℕ) (s : List ℕ) → checksum_from (fold checksum_from c (first_chunks n k s)) (drop (k * n) s) ≡ checksum_from c s
+checksum_parts n zero c s = ap (λ (i : ℕ). checksum_from c (drop i s)) (zero-mul n)
+checksum_parts n (suc k) c s =
+    let e : suc k * n ≡ n + k * n = omega arith in
+    ap (λ (t : List ℕ). checksum_from (fold checksum_from (checksum_from c (take n s)) (first_chunks n k (drop n s))) t)
+    (ap (λ (i : ℕ). drop i s) e ∙ sym (drop-drop (k * n) n s))
+    ∙ checksum_parts n k (checksum_from c (take n s)) (drop n s)
+    ∙ sym (checksum_append c (take n s) (drop n s))
+    ∙ ap (checksum_from c) (take-append-drop n s)
 
 byte_power : (n : ℕ) → 256 ^ n ≡ 2 ^ (8 * n)
 byte_power zero = refl
@@ -96,8 +106,7 @@ checksum_rest c s moved b h e =
     let x = bit_xor c (field s 0 n) in
     let whole : 64 - 8 * n + 8 * n ≡ 64 = omega arith in
     let below : field s 0 n < 2 ^ (8 * n) = omega (arith, field_below s 0 n b, byte_power n) in
-    checksum_word n c s 0 b (omega arith)
-    ∙ checksum_done (bits (8 * n) x) s (0 + n) (omega arith)
+    checksum_whole c s b
     ∙ bits_raised (64 - 8 * n) (8 * n) c (field s 0 n) below
     ∙ ap (λ (k : ℕ). bit_xor (c / 2 ^ (8 * n)) (bits k (x * 2 ^ (64 - 8 * n) % 2 ^ k))) whole
     ∙ ap (λ (y : ℕ). bit_xor (c / 2 ^ (8 * n)) (bits 64 y)) (sym e)

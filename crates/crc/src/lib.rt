@@ -1,74 +1,40 @@
 // The checksum of headers, pages and blocks, eight bytes at a time, by the eight tables of 003, 5.3.
 #![tactic(auto)]
 
-ghost use Rattle.std.specs.Prelude.{◌≡◌, ◌+◌, ◌*◌, ◌/◌, ◌%◌, ◌<◌, length};
+ghost use Rattle.std.specs.Prelude.{◌≡◌, ◌+◌, ◌*◌, ◌<◌, length};
+ghost use Rattle.std.specs.List.{fold};
 ghost use Rattle.remainder.specs.Remainder.{bits};
 ghost use Rattle.crc.specs.Checksum.{checksum as checksum_of, checksum_from};
 
-// What is left of eight bytes when 64 bits have fallen out, in three parts: of the upper half, of the
-// upper and of the lower two bytes of the lower half. Each of the eight lookups is made in one place, so
-// that the compiler keeps the tables without a call.
-fn after_upper_half(high: u32) -> u32
-    ensures { result ≡ bits 32 high }
+// What is left of eight bytes, in two halves, when 64 bits have fallen out. The upper half comes first,
+// since it does not wait for the sum, which is added to the lower one.
+fn after_eight(low: u32, high: u32) -> u32
+    ensures { result ≡ bits 64 (low + 4294967296 * high) }
 {
-    let d = tables32::offset32((high / 16777216) as u8);
-    let c = tables32::offset40((high / 65536 % 256) as u8);
-    let b = tables48::offset48((high / 256 % 256) as u8);
-    let a = tables48::offset56((high % 256) as u8);
-    a ^ (b ^ (c ^ d))
+    let [e, f, g, h] = high.to_le_bytes();
+    let upper = tables48::offset56(e)
+        ^ tables48::offset48(f)
+        ^ tables32::offset40(g)
+        ^ tables32::offset32(h);
+    let [a, b, c, d] = low.to_le_bytes();
+    tables80::offset88(a)
+        ^ tables80::offset80(b)
+        ^ tables64::offset72(c)
+        ^ tables64::offset64(d)
+        ^ upper
 }
 
-fn after_upper_two(low: u32) -> u32
-    ensures { result ≡ bits 48 (low / 65536) }
+// The checksum, taken on over eight bytes.
+fn eight_on(sum: u32, eight: &[u8; 8]) -> u32
+    ensures { result ≡ checksum_from sum eight.now }
 {
-    let b = tables64::offset64((low / 16777216) as u8);
-    let a = tables64::offset72((low / 65536 % 256) as u8);
-    a ^ b
+    after_eight(sum ^ le::field4(eight, 0), le::field4(eight, 4))
 }
 
-fn after_lower_two(low: u32) -> u32
-    ensures { result ≡ bits 64 (low % 65536) }
+fn eights_on(start: u32, eights: &[[u8; 8]]) -> u32
+    ensures { result ≡ fold checksum_from start eights.now }
 {
-    let b = tables80::offset80((low / 256 % 256) as u8);
-    let a = tables80::offset88((low % 256) as u8);
-    a ^ b
-}
-
-// Eight bytes to which the sum is added already, and then the bytes, eight at a time. The sum goes on in
-// two parts, and the next four bytes are added to what does not wait for the last lookups.
-fn eights_on(first_low: u32, first_high: u32, bytes: &[u8]) -> u32
-    requires { length bytes.now % 8 ≡ 0 }
-    ensures { result ≡ checksum_from (bits 64 (first_low + 4294967296 * first_high)) bytes.now }
-{
-    let mut left = first_low;
-    let mut right: u32 = 0;
-    let mut high = first_high;
-    let mut i: usize = 0;
-    loop {
-        let ahead = after_upper_half(high);
-        let low = left ^ right;
-        right = after_upper_two(low);
-        let lower = after_lower_two(low);
-        if bytes.len() - i < 8 {
-            break (ahead ^ lower) ^ right;
-        }
-        left = (ahead ^ le::field4(bytes, i)) ^ lower;
-        high = le::field4(bytes, i + 4);
-        i += 8;
-    }
-}
-
-// The checksum, taken on over bytes that come in eights.
-fn whole_on(start: u32, bytes: &[u8]) -> u32
-    requires { length bytes.now % 8 ≡ 0 }
-    ensures { result ≡ checksum_from start bytes.now }
-{
-    if bytes.len() == 0 {
-        return start;
-    }
-    let low = start ^ le::field4(bytes, 0);
-    let high = le::field4(bytes, 4);
-    eights_on(low, high, &bytes[8..])
+    eights.iter().fold(start, |sum, eight| eight_on(sum, eight))
 }
 
 // The checksum, taken on over fewer than eight bytes. They are moved to the upper end of eight: the
@@ -81,23 +47,21 @@ fn rest_on(sum: u32, bytes: &[u8]) -> u32
     if n == 0 {
         return sum;
     }
-    let x = (sum as u64) ^ le::field_of(bytes, 0, n);
+    let x = u64::from(sum) ^ le::field_of(bytes, 0, n);
+    let above = u64::from(sum) >> (8 * n);
     let moved = x << (64 - 8 * n);
-    let above = (sum as u64) >> (8 * n);
-    let low = (moved % 4294967296) as u32;
-    let high = (moved / 4294967296) as u32;
-    (above as u32) ^ eights_on(low, high, &bytes[..0])
+    (above as u32) ^ after_eight((moved % 4294967296) as u32, (moved / 4294967296) as u32)
 }
 
 // The checksum `start`, taken on over the bytes.
 pub fn checksum_from(start: u32, bytes: &[u8]) -> u32
     ensures { result ≡ checksum_from start bytes.now }
 {
-    let cut = bytes.len() / 8 * 8;
-    let sum = whole_on(start, &bytes[..cut]);
-    rest_on(sum, &bytes[cut..])
+    let (eights, rest) = bytes.as_chunks::<8>();
+    rest_on(eights_on(start, eights), rest)
 }
 
+#[tactic(auto, unfolding(crate::specs::Checksum::checksum))]
 pub fn checksum(bytes: &[u8]) -> u32
     ensures { result ≡ checksum_of bytes.now }
 {

@@ -83,6 +83,7 @@ pub struct Edition {
 }
 
 // The node tree of the 64-bit edition.
+#[tactic(auto, unfolding(crate::specs::Editions::nbt64))]
 pub fn nodes_64() -> Layout
     ensures { result ≡ nbt64 }
 {
@@ -115,6 +116,7 @@ pub fn nodes_64() -> Layout
 }
 
 // The block tree of the 64-bit edition.
+#[tactic(auto, unfolding(crate::specs::Editions::bbt64))]
 pub fn blocks_64() -> Layout
     ensures { result ≡ bbt64 }
 {
@@ -146,6 +148,7 @@ pub fn blocks_64() -> Layout
     }
 }
 
+#[tactic(auto, unfolding(crate::specs::Editions::trailer64))]
 pub fn trailer_64() -> Trailer
     ensures { result ≡ trailer64 }
 {
@@ -158,6 +161,7 @@ pub fn trailer_64() -> Trailer
     }
 }
 
+#[tactic(auto, unfolding(crate::specs::Editions::places64))]
 pub fn places_64() -> HeaderPlaces
     ensures { result ≡ places64 }
 {
@@ -171,6 +175,7 @@ pub fn places_64() -> HeaderPlaces
     }
 }
 
+#[tactic(auto, unfolding(crate::specs::Editions::root64))]
 pub fn root_64() -> RootBlock
     ensures { result ≡ root64 }
 {
@@ -181,6 +186,7 @@ pub fn root_64() -> RootBlock
 }
 
 // The 64-bit edition.
+#[tactic(auto, unfolding(crate::specs::Editions::edition64))]
 pub fn edition_64() -> Edition
     ensures { result ≡ edition64 }
 {
@@ -195,6 +201,7 @@ pub fn edition_64() -> Edition
 }
 
 // The node tree of the 32-bit edition.
+#[tactic(auto, unfolding(crate::specs::Editions::nbt32))]
 pub fn nodes_32() -> Layout
     ensures { result ≡ nbt32 }
 {
@@ -224,6 +231,7 @@ pub fn nodes_32() -> Layout
 }
 
 // The block tree of the 32-bit edition.
+#[tactic(auto, unfolding(crate::specs::Editions::bbt32))]
 pub fn blocks_32() -> Layout
     ensures { result ≡ bbt32 }
 {
@@ -252,6 +260,7 @@ pub fn blocks_32() -> Layout
     }
 }
 
+#[tactic(auto, unfolding(crate::specs::Editions::trailer32))]
 pub fn trailer_32() -> Trailer
     ensures { result ≡ trailer32 }
 {
@@ -264,6 +273,7 @@ pub fn trailer_32() -> Trailer
     }
 }
 
+#[tactic(auto, unfolding(crate::specs::Editions::places32))]
 pub fn places_32() -> HeaderPlaces
     ensures { result ≡ places32 }
 {
@@ -277,6 +287,7 @@ pub fn places_32() -> HeaderPlaces
     }
 }
 
+#[tactic(auto, unfolding(crate::specs::Editions::root32))]
 pub fn root_32() -> RootBlock
     ensures { result ≡ root32 }
 {
@@ -287,6 +298,7 @@ pub fn root_32() -> RootBlock
 }
 
 // The 32-bit edition.
+#[tactic(auto, unfolding(crate::specs::Editions::edition32))]
 pub fn edition_32() -> Edition
     ensures { result ≡ edition32 }
 {

@@ -1,2 +1,2 @@
-pub mod Arms
+pub mod Entries
 pub mod Remainders

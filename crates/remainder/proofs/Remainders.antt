@@ -5,7 +5,7 @@ use native.Mathlib.Nat.{zero-add, suc-add, pow-suc, mod-lt, div-eq_of_lt, div-di
 use native.Mathlib.Omega.{arith}
 use lib.Pow.{pow_pos, split, shr-shr, shl-shr}
 use lib.Bits.{bit_xor, xor_zero_r, xor_comm, xor_shr, xor_mod, xor_shifted, shifted_half, shifted_even}
-use Rattle.laws.proofs.Xor.{xor_assoc, xor_swap, digit_cases}
+use Rattle.laws.proofs.Xor.{xor_swap, digit_cases}
 use Rattle.remainder.specs.Remainder.{polynomial, bit, bits, table_entry}
 
 -- 003, 5.3: the last number of its first table
@@ -84,18 +84,6 @@ bits_spread (suc k) j d x h =
     ∙ ap₂ bit_xor
     (ap (λ (n : ℕ). bits n (x / d % 256)) (sym e'))
     (ap (bits (8 * (k + j))) q ∙ bits_spread k j (d * 256) x (omega (arith, q, pow-suc 256 k)))
-
--- eight bytes, in two halves, of which the lower one is halved again
-pub bits_eight : (low high : ℕ) → low < 4294967296 → bits 64 (low + 4294967296 * high) ≡ bit_xor (bit_xor (bits 32 high) (bits 64 (low % 65536))) (bits 48 (low / 65536))
-bits_eight low high h =
-    let x = low + 4294967296 * high in
-    let below : x % 4294967296 ≡ low = omega arith in
-    let above : x / 4294967296 ≡ high = omega arith in
-    bits_parts 32 32 x
-    ∙ ap₂ (λ (l r : ℕ). bit_xor (bits 64 l) (bits 32 r)) below above
-    ∙ xor_comm (bits 64 low) (bits 32 high)
-    ∙ ap (bit_xor (bits 32 high)) (bits_parts 16 48 low)
-    ∙ sym (xor_assoc (bits 32 high) (bits 64 (low % 65536)) (bits 48 (low / 65536)))
 
 -- k bits of a sum with a number of k bits, as m + k bits of what comes to stand m bits higher, and what lies above it
 pub bits_raised : (m k c f : ℕ) → f < 2 ^ k → bits k (bit_xor c f) ≡ bit_xor (c / 2 ^ k) (bits (m + k) (bit_xor c f * 2 ^ m % 2 ^ (m + k)))

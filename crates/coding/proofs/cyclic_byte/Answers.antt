@@ -1,8 +1,11 @@
-use Rattle.std.proofs.Common.{refl}
-use Rattle.coding.proofs.CodingLaws.{cyclic_steps}
+use Rattle.std.proofs.Common.{◌≡◌, ℕ, ◌/◌, ◌%◌, List, get_or, ap, ◌∙◌, arith}
+use Rattle.coding.specs.Coding.{cyclic_byte}
 use Rattle.coding.proofs.cyclic_byte.Goals as goal
 
 pub returns : goal.returns
+unfolding cyclic_byte
 returns c =
-    cyclic_steps c.args.w c.args.byte _ _ _ _ _ _ _ _ _ refl refl
-    c.plus.ensures c.entry_of-x.ensures c.plus-2.ensures c.entry_of-y.ensures c.minus.ensures c.entry_of-z.ensures c.minus-2.ensures
+    let w = c.args.w in
+    let low : get_or c.to_le_bytes.result 0 0 ≡ w % 256 = ap (λ (s : List ℕ). get_or s 0 0) c.to_le_bytes.ensures in
+    let high : get_or c.to_le_bytes.result 1 0 ≡ w / 256 = ap (λ (s : List ℕ). get_or s 1 0) c.to_le_bytes.ensures ∙ omega arith in
+    cc

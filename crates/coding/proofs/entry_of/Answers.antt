@@ -1,9 +1,7 @@
-use Rattle.std.proofs.Common.{ℕ, ◌+◌, List, get_or, ap₂}
-use Rattle.coding.specs.Table.{entry}
+use Rattle.std.proofs.Common.{ℕ, ◌+◌, get_or, ap}
+use Rattle.coding.specs.Table.{coding_table, entry}
 use Rattle.coding.proofs.entry_of.Goals as goal
 
 pub returns : goal.returns
-unfolding entry
-returns c =
-    let a = c.args in
-    ap₂ (λ (l : List ℕ) (k : ℕ). get_or l (a.from + k) 0) c.requires.0 c.wide.ensures.0
+unfolding coding_table entry
+returns c = ap (λ (k : ℕ). get_or coding_table (c.args.from + k) 0) c.from.ensures

@@ -1,11 +1,7 @@
-use Prim.Native.Nat.{◌+◌}
-use native.Mathlib.Omega.{arith}
-use Rattle.le.specs.Bytes.{byte}
-use Rattle.le.proofs.FieldLaws.{field_more, field_one}
+use Rattle.std.proofs.Common.{ap, ◌∙◌}
+use Rattle.std.specs.Int.{w16, from_le_bytes}
+use Rattle.le.proofs.FieldLaws.{part_worth}
 use Rattle.le.proofs.field2.Goals as goal
 
 pub returns : goal.returns
-unfolding byte
-returns c =
-    let a = c.args in
-    omega (arith, field_more a.bytes.now a.place 1, field_one a.bytes.now (a.place + 1))
+returns c = c.from_le_bytes.ensures ∙ ap (from_le_bytes w16) c.taken.ensures ∙ part_worth c.args.bytes.now c.args.place 1

@@ -1,8 +1,7 @@
-use native.Mathlib.Omega.{arith}
-use Rattle.le.proofs.FieldLaws.{field_add}
+use Rattle.std.proofs.Common.{ap, ◌∙◌}
+use Rattle.std.specs.Int.{w32, from_le_bytes}
+use Rattle.le.proofs.FieldLaws.{part_worth}
 use Rattle.le.proofs.field4.Goals as goal
 
 pub returns : goal.returns
-returns c =
-    let a = c.args in
-    omega (arith, field_add 2 2 a.bytes.now a.place)
+returns c = c.from_le_bytes.ensures ∙ ap (from_le_bytes w32) c.taken.ensures ∙ part_worth c.args.bytes.now c.args.place 3
