@@ -132,11 +132,7 @@ pub fn check_block_in(image: &[u8], e: Edition, block: u64) -> Result<Listed, Re
     requires { FairEdition e × (header_fits image.now ≡ Ok tt) }
     ensures { result ≡ checked_block e image.now block }
 {
-    test_found(
-        image,
-        e.trailer,
-        tree::find_in(image, e.blocks, block),
-    )
+    test_found(image, e.trailer, tree::find_in(image, e.blocks, block))
 }
 
 // The same at the end of the block's way.
@@ -144,11 +140,7 @@ pub fn check_block_at(image: &[u8], e: Edition, way: Way, block: u64) -> Result<
     requires { FairEdition e × FromRoot e.blocks image.now way × (at_end e.blocks image.now way (compared e.blocks block) ≡ lookup e.blocks image.now block) }
     ensures { result ≡ checked_block e image.now block }
 {
-    test_found(
-        image,
-        e.trailer,
-        tree::at(image, e.blocks, way, block),
-    )
+    test_found(image, e.trailer, tree::at(image, e.blocks, way, block))
 }
 
 pub fn test_block(image: &[u8], e: Edition, block: u64) -> Result<u64, Refusal>

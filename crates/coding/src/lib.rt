@@ -95,6 +95,7 @@ fn word_of(block: u64) -> u16
 }
 
 // By the method, permuting with the table that starts at `from`.
+#[tactic(auto, unfolding(crate::specs::Coding::coded, crate::specs::Coding::method_fits, refusal::specs::Order::demand))]
 fn code(method: u8, from: usize, block: u64, bytes: &mut [u8]) -> Verdict
     requires { from ≤ 512 }
     ensures answer { result ≡ method_fits method }
