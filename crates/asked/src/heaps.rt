@@ -2,18 +2,19 @@
 use crate::answers;
 use crate::text::Summed;
 use property::Property;
-use said::{Answer, RefusedWith};
+use said::Answer;
 use shown::PropertyWords;
 use std::io;
 
 // Whether the property is there or refused, and so has a line.
 fn property_line(rt: &impl Print, block: &[u8], id: u16) -> io::Result<bool> {
-    let answer = shown::property(pst::find_property(block, id));
-    let Some(answer) = answer.transpose() else {
+    let Some(answer) = pst::find_property(block, id).transpose() else {
         return Ok(false);
     };
-    let words = answer.map(PropertyWords).map_err(RefusedWith);
-    print!(rt; "find_property {id:04x}: {}", Answer(words))?;
+    print!(rt;
+        "find_property {id:04x}: {}",
+        Answer(answer.map(PropertyWords))
+    )?;
     if let Ok(Property::Item(_, item)) = answer {
         print!(rt; " of {}", Summed(pst::item(block, item)))?;
     }
@@ -44,7 +45,7 @@ pub fn heap_lines(rt: &impl Print, block: &[u8]) -> io::Result<()> {
     }
     let tested = pst::test_heap(block);
     println!(rt; "test_heap: {}", answers::verdict(tested))?;
-    if shown::verdict_words(tested).is_ok() {
+    if tested.is_ok() {
         return property_lines(rt, block);
     }
     property_line(rt, block, 0x3001)?;

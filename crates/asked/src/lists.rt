@@ -2,8 +2,8 @@
 ghost use Rattle.std.specs.Prelude.{◌≤◌, length};
 
 use crate::answers;
-use shown::trees::{Found, found_node};
 use std::io;
+use tree::Found;
 
 // One call, and the whole area after it.
 fn list_line(rt: &impl Print, image: &[u8], nodes: &[u64], area: &mut [u64]) -> io::Result<()> {
@@ -30,7 +30,7 @@ fn first_nodes(image: &[u8], list: &mut [u64]) -> usize
 {
     let mut from: u64 = 0;
     for (count, place) in list.iter_mut().enumerate() {
-        let Ok(Found::Entry(node, _)) = found_node(pst::next_node(image, from)) else {
+        let Ok(Found::Entry(node, _)) = pst::next_node(image, from) else {
             return count;
         };
         *place = node.node;

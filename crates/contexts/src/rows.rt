@@ -1,25 +1,16 @@
 // Whole rows, read in one call, and rows found by their ids.
 use crate::Context;
 use cells::Cell;
-use rowcells::RowRead;
-use said::RefusedWith;
+use refusal::Refusal;
 use std::io;
-use table::FoundRow;
-
-fn say_read(rt: &impl Print, answer: RowRead) -> io::Result<()> {
-    match answer {
-        RowRead::Cells(count) => print!(rt; "cells {count}"),
-        RowRead::Absent => print!(rt; "absent"),
-        RowRead::Refused(wrong) => print!(rt; "{}", RefusedWith(wrong)),
-    }
-}
 
 // One call, and the whole area after it.
 fn read_line(rt: &impl Print, context: Context<'_>, row: u32, area: &mut [u64]) -> io::Result<()> {
     let Context { heap, rows } = context;
     let words = area.len();
     print!(rt; "read_row {row} in {words} words: ")?;
-    say_read(rt, pst::read_row(heap, rows, row, area))?;
+    let read = pst::read_row(heap, rows, row, area);
+    said::say_answer(rt, read, |count| print!(rt; "cells {count}"))?;
     println!(rt;
         "; area of {words} words, checksum {:08x}",
         said::sum_of(area)
@@ -33,12 +24,9 @@ pub fn read_lines(rt: &impl Print, context: Context<'_>) -> io::Result<()> {
     read_line(rt, context, 0xFFFF_FFFF, &mut [0xA5A5_A5A5_A5A5_A5A5; 11])
 }
 
-fn say_found(rt: &impl Print, answer: FoundRow) -> io::Result<()> {
-    match answer {
-        FoundRow::Row(row) => println!(rt; "row {row}"),
-        FoundRow::Absent => println!(rt; "absent"),
-        FoundRow::Refused(wrong) => println!(rt; "{}", RefusedWith(wrong)),
-    }
+fn say_found(rt: &impl Print, answer: Result<Option<u32>, Refusal>) -> io::Result<()> {
+    said::say_answer(rt, answer, |row| print!(rt; "row {row}"))?;
+    println!(rt)
 }
 
 // The id by the row index, and by that of a 32-bit file.
@@ -53,7 +41,7 @@ fn find_line(rt: &impl Print, heap: &[u8], id: u32) -> io::Result<()> {
 fn own_line(rt: &impl Print, context: Context<'_>, row: u32) -> io::Result<()> {
     let Context { heap, rows } = context;
     match pst::cell(heap, rows, row, 0x67F2_0003) {
-        Cell::Number(id) => find_line(rt, heap, (id & 0xFFFF_FFFF) as u32),
+        Ok(Some(Cell::Number(id))) => find_line(rt, heap, (id & 0xFFFF_FFFF) as u32),
         _ => Ok(()),
     }
 }

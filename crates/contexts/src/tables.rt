@@ -1,9 +1,9 @@
 // What the table says of itself, its first columns, and how many rows it has.
 use crate::Context;
-use cells::Counted;
-use said::RefusedWith;
+use columns::Column;
+use said::Answer;
 use std::{fmt, io};
-use table::{ColumnAnswer, Named, Table, TableAnswer};
+use table::{Named, Table};
 
 // What a table says of itself.
 #[derive(Clone, Copy)]
@@ -23,21 +23,17 @@ impl fmt::Display for TableWords {
 }
 
 fn table_line(rt: &impl Print, heap: &[u8]) -> io::Result<()> {
-    match pst::table(heap) {
-        TableAnswer::Says(table) => println!(rt; "table: {}", TableWords(table)),
-        TableAnswer::Refused(wrong) => println!(rt; "table: {}", RefusedWith(wrong)),
-    }
+    println!(rt; "table: {}", Answer(pst::table(heap).map(TableWords)))
 }
 
-fn say_column(rt: &impl Print, answer: ColumnAnswer) -> io::Result<()> {
-    match answer {
-        ColumnAnswer::Found(column) => {
-            print!(rt; "tag {:08x}, offset {}", column.tag, column.offset)?;
-            println!(rt; ", width {}, bit {}", column.width, column.bit)
-        }
-        ColumnAnswer::Absent => println!(rt; "absent"),
-        ColumnAnswer::Refused(wrong) => println!(rt; "{}", RefusedWith(wrong)),
-    }
+fn say_column(rt: &impl Print, column: Column) -> io::Result<()> {
+    let Column {
+        tag,
+        offset,
+        width,
+        bit,
+    } = column;
+    print!(rt; "tag {tag:08x}, offset {offset}, width {width}, bit {bit}")
 }
 
 // Eight columns, or as far as the first that is absent or refused.
@@ -45,8 +41,9 @@ fn column_lines(rt: &impl Print, heap: &[u8]) -> io::Result<()> {
     for index in 0..8 {
         print!(rt; "column {index}: ")?;
         let answer = pst::column(heap, index);
-        say_column(rt, answer)?;
-        let ColumnAnswer::Found(_) = answer else {
+        said::say_answer(rt, answer, |column| say_column(rt, column))?;
+        println!(rt)?;
+        let Ok(Some(_)) = answer else {
             return Ok(());
         };
     }
@@ -54,10 +51,8 @@ fn column_lines(rt: &impl Print, heap: &[u8]) -> io::Result<()> {
 }
 
 fn count_line(rt: &impl Print, context: Context<'_>) -> io::Result<()> {
-    match pst::count_rows(context.heap, context.rows) {
-        Counted::Rows(count) => println!(rt; "count_rows: {count}"),
-        Counted::Refused(wrong) => println!(rt; "count_rows: {}", RefusedWith(wrong)),
-    }
+    let count = Answer(pst::count_rows(context.heap, context.rows));
+    println!(rt; "count_rows: {count}")
 }
 
 pub fn table_lines(rt: &impl Print, context: Context<'_>) -> io::Result<()> {

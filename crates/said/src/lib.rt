@@ -108,7 +108,22 @@ impl<T: fmt::Display, R: fmt::Display> fmt::Display for Answer<T, R> {
     }
 }
 
-// A refusal by its number and place.
+// What a call finds, said by `found`, or that it finds nothing, or its refusal; without the line's end.
+pub fn say_answer<T, F: FnOnce(T) -> io::Result<()>>(
+    rt: &impl Print,
+    answer: Result<Option<T>, Refusal>,
+    found: F,
+) -> io::Result<()>
+    requires { F.IsAlwaysCallable found }
+{
+    match answer {
+        Ok(Some(answer)) => found(answer),
+        Ok(None) => print!(rt; "absent"),
+        Err(wrong) => print!(rt; "{wrong}"),
+    }
+}
+
+// A refusal by its number and place, without what more it says.
 #[derive(Clone, Copy)]
 pub struct Refused(pub Refusal);
 
@@ -117,17 +132,6 @@ impl fmt::Display for Refused {
         let Refused(wrong) = *self;
         let number = refusal::number_of(wrong.fault);
         write!(f, "refused {number} at place {}", wrong.place)
-    }
-}
-
-// A refusal with what more it says.
-#[derive(Clone, Copy)]
-pub struct RefusedWith(pub Refusal);
-
-impl fmt::Display for RefusedWith {
-    fn fmt<W: fmt::Write>(&self, f: &mut fmt::Formatter<W>) -> fmt::Result {
-        let RefusedWith(wrong) = *self;
-        write!(f, "{}, more {}", Refused(wrong), wrong.more)
     }
 }
 

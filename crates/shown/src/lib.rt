@@ -4,9 +4,10 @@
 pub mod pages;
 pub mod trees;
 
-use header::{Header, HeaderAnswer};
+use header::Header;
 use property::Property;
-use refusal::{Refusal, Verdict};
+use refusal::Verdict;
+use said::{Answer, Refused};
 use std::fmt;
 
 // What a header says.
@@ -25,18 +26,9 @@ impl fmt::Display for HeaderWords {
     }
 }
 
-pub fn header_words(answer: HeaderAnswer) -> Result<HeaderWords, Refusal> {
-    match answer {
-        HeaderAnswer::Says(header) => Ok(HeaderWords(header)),
-        HeaderAnswer::Refused(wrong) => Err(wrong),
-    }
-}
-
-pub fn verdict_words(verdict: Verdict) -> Result<&'static str, Refusal> {
-    match verdict {
-        Verdict::Accepted => Ok("accepted"),
-        Verdict::Refused(wrong) => Err(wrong),
-    }
+// A verdict, of a refusal its number and place alone.
+pub fn verdict(verdict: Verdict) -> Answer<&'static str, Refused> {
+    Answer(verdict.map(|()| "accepted").map_err(Refused))
 }
 
 // A property's type and what holds its value.
@@ -50,17 +42,6 @@ impl fmt::Display for PropertyWords {
             Property::Empty(code) => write!(f, "type {code:04x}, empty"),
             Property::Item(code, item) => write!(f, "type {code:04x}, item {item:08x}"),
             Property::Subnode(code, node) => write!(f, "type {code:04x}, subnode {node:08x}"),
-            Property::Absent => write!(f, "absent"),
-            Property::Refused(wrong) => write!(f, "{}", said::Refused(wrong)),
         }
-    }
-}
-
-// A property that is there, or that none is.
-pub fn property(answer: Property) -> Result<Option<Property>, Refusal> {
-    match answer {
-        Property::Absent => Ok(None),
-        Property::Refused(wrong) => Err(wrong),
-        found => Ok(Some(found)),
     }
 }

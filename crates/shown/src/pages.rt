@@ -1,12 +1,13 @@
 // The header's answer, and checksums and signatures of headers, pages and blocks, beside those that stand in
 // their bytes.
+use crate::HeaderWords;
 use header::Reference;
 use said::{Answer, Refused};
 use std::io;
 use std::rt::Files;
 
 pub fn header_line(rt: &impl Print, section: &str, image: &[u8]) -> io::Result<()> {
-    let answer = crate::header_words(pst::header(image)).map_err(Refused);
+    let answer = pst::header(image).map(HeaderWords).map_err(Refused);
     println!(rt; "{section} header: {}", Answer(answer))
 }
 

@@ -3,7 +3,7 @@ use refusal::Refusal;
 use said::{Answer, Refused};
 use std::rt::Files;
 use std::{fmt, io};
-use tree::{FoundBlock, FoundNode, Listed, Node};
+use tree::{Found, Listed, Node};
 
 // An entry of a tree: its number, the highest that an entry can have, and what it says of itself.
 pub trait Entry {
@@ -53,28 +53,6 @@ impl Entry for Listed {
 }
 
 // What a call finds in a tree, or that it finds nothing; beside it how many pages were read.
-#[derive(Clone, Copy)]
-pub enum Found<T> {
-    Entry(T, u64),
-    Absent(u64),
-}
-
-pub fn found_node(found: FoundNode) -> Result<Found<Node>, Refusal> {
-    match found {
-        FoundNode::Found(node, pages) => Ok(Found::Entry(node, pages)),
-        FoundNode::Absent(pages) => Ok(Found::Absent(pages)),
-        FoundNode::Refused(wrong) => Err(wrong),
-    }
-}
-
-pub fn found_block(found: FoundBlock) -> Result<Found<Listed>, Refusal> {
-    match found {
-        FoundBlock::Found(block, pages) => Ok(Found::Entry(block, pages)),
-        FoundBlock::Absent(pages) => Ok(Found::Absent(pages)),
-        FoundBlock::Refused(wrong) => Err(wrong),
-    }
-}
-
 #[derive(Clone, Copy)]
 pub struct FoundWords<T>(pub Found<T>);
 
@@ -165,10 +143,10 @@ fn list_lines<T: Entry + Copy, F: Fn(u64) -> Result<Found<T>, Refusal>>(
 }
 
 fn check_lines(rt: &impl Print, section: &str, image: &[u8]) -> io::Result<()> {
-    let nodes = crate::verdict_words(pst::check_nodes(image)).map_err(Refused);
-    println!(rt; "{section} check_nodes: {}", Answer(nodes))?;
-    let blocks = crate::verdict_words(pst::check_blocks(image)).map_err(Refused);
-    println!(rt; "{section} check_blocks: {}", Answer(blocks))
+    let nodes = crate::verdict(pst::check_nodes(image));
+    println!(rt; "{section} check_nodes: {nodes}")?;
+    let blocks = crate::verdict(pst::check_blocks(image));
+    println!(rt; "{section} check_blocks: {blocks}")
 }
 
 fn tree_lines(
@@ -181,16 +159,16 @@ fn tree_lines(
     crate::pages::header_line(rt, section, image)?;
     check_lines(rt, section, image)?;
     lookup_lines(rt, section, "find_node", nodes, |node| {
-        found_node(pst::find_node(image, node))
+        pst::find_node(image, node)
     })?;
     lookup_lines(rt, section, "find_block", blocks, |block| {
-        found_block(pst::find_block(image, block))
+        pst::find_block(image, block)
     })?;
     list_lines(rt, section, "next_node", |from| {
-        found_node(pst::next_node(image, from))
+        pst::next_node(image, from)
     })?;
     list_lines(rt, section, "next_block", |from| {
-        found_block(pst::next_block(image, from))
+        pst::next_block(image, from)
     })
 }
 

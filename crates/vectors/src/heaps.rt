@@ -1,15 +1,16 @@
 // 003, 3.8 to 3.11: the heap of a message store's properties and that of a table, their items and properties.
 use heap::Span;
 use listed::Hex;
-use said::{Answer, Refused};
+use refusal::Refusal;
+use said::Refused;
 use shown::PropertyWords;
 use std::io;
 use std::rt::Files;
 
-fn say_span(rt: &impl Print, span: Span) -> io::Result<()> {
+fn say_span(rt: &impl Print, span: Result<Span, Refusal>) -> io::Result<()> {
     match span {
-        Span::Within(start, size) => println!(rt; "{size} bytes at {start}"),
-        Span::Refused(wrong) => println!(rt; "{}", Refused(wrong)),
+        Ok(Span { start, length }) => println!(rt; "{length} bytes at {start}"),
+        Err(wrong) => println!(rt; "{}", Refused(wrong)),
     }
 }
 
@@ -22,17 +23,13 @@ fn say_part(rt: &impl Print, part: &[u8]) -> io::Result<()> {
 }
 
 fn heap_line(rt: &impl Print, section: &str, block: &[u8]) -> io::Result<()> {
-    let tested = shown::verdict_words(heap::test_heap(block)).map_err(Refused);
-    println!(rt;
-        "{section} test_heap of {} bytes: {}",
-        block.len(),
-        Answer(tested)
-    )
+    let tested = shown::verdict(heap::test_heap(block));
+    println!(rt; "{section} test_heap of {} bytes: {tested}", block.len())
 }
 
 fn test_line(rt: &impl Print, section: &str, block: &[u8], item: u32) -> io::Result<()> {
-    let tested = shown::verdict_words(heap::test_item(block, item)).map_err(Refused);
-    println!(rt; "{section} test_item {item:08x}: {}", Answer(tested))
+    let tested = shown::verdict(heap::test_item(block, item));
+    println!(rt; "{section} test_item {item:08x}: {tested}")
 }
 
 // The three calls on an item of 3.8.
@@ -46,7 +43,7 @@ fn item_lines(rt: &impl Print, block: &[u8], item: u32) -> io::Result<()> {
 
 fn property_line(rt: &impl Print, section: &str, block: &[u8], id: u16) -> io::Result<()> {
     print!(rt; "{section} find_property {id:04x}: ")?;
-    match shown::property(property::find_property(block, id)) {
+    match property::find_property(block, id) {
         Ok(Some(property)) => println!(rt; "{}", PropertyWords(property)),
         Ok(None) => println!(rt; "absent"),
         Err(wrong) => println!(rt; "{}", Refused(wrong)),
