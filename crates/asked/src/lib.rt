@@ -23,5 +23,7 @@ fn all_lines(rt: &impl Print, name: &str, image: &[u8]) -> io::Result<()> {
 
 // An image in a file.
 pub fn image_lines(rt: &(impl Files + Print + Eprint), name: &str) -> io::Result<()> {
-    said::with_file(rt, name, |image| all_lines(rt, name, image))
+    said::with_file(rt, name, &mut [0u8; 65536], |image| {
+        all_lines(rt, name, image)
+    })
 }

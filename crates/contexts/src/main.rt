@@ -137,12 +137,21 @@ fn heap_lines(
     path: &str,
     rows_path: Option<&str>,
 ) -> io::Result<()> {
-    said::with_file(rt, path, |heap| match rows_path {
-        Some(rows_path) => said::with_file(rt, rows_path, |rows| {
-            context_lines(rt, path, Context { heap, rows })
-        }),
-        None => context_lines(rt, path, Context { heap, rows: &[] }),
-    })
+    let mut heap = [0u8; 65536];
+    let size = said::load(rt, path, &mut heap)?;
+    let mut rows = [0u8; 65536];
+    let rows_size = match rows_path {
+        Some(rows_path) => said::load(rt, rows_path, &mut rows)?,
+        None => Some(0),
+    };
+    let (Some(size), Some(rows_size)) = (size, rows_size) else {
+        return Ok(());
+    };
+    let context = Context {
+        heap: &heap[..size],
+        rows: &rows[..rows_size],
+    };
+    context_lines(rt, path, context)
 }
 
 fn lines(rt: &(impl Files + Print + Eprint), tables: &[(&str, Option<&str>)]) -> io::Result<()> {

@@ -17,16 +17,20 @@ fn digit(character: u8) -> Option<u8> {
     }
 }
 
-// The bytes that pairs of digits stand for, at the front of `out`: how many. What is no digit is passed over.
+// The bytes that pairs of digits stand for, at the front of `out`: how many. What is no digit is passed over,
+// and behind a digit counts as 0.
 pub fn unhex(text: &[u8], out: &mut [u8]) -> usize
     ensures { IsPrefixLen result out.new }
 {
-    let mut digits = text.iter().filter_map(|character| digit(*character));
+    let mut characters = text.iter();
     for (count, byte) in out.iter_mut().enumerate() {
-        let (Some(high), Some(low)) = (digits.next(), digits.next()) else {
+        let Some(high) = characters.find_map(|character| digit(*character)) else {
             return count;
         };
-        *byte = high << 4 | low;
+        let Some(low) = characters.next() else {
+            return count;
+        };
+        *byte = high << 4 | digit(*low).unwrap_or(0);
     }
     out.len()
 }
@@ -47,17 +51,17 @@ pub fn load_hex(
     Ok(Some(unhex(&letters[..size], out)))
 }
 
-// Hands on the bytes that a file of digits stands for; where it is not read, why not is said, and nothing is
-// handed on.
+// Hands on the bytes that a file of digits stands for, by way of the buffer; where it is not read, why not is
+// said, and nothing is handed on.
 pub fn with_hex<F: FnOnce(&[u8]) -> io::Result<()>>(
     rt: &(impl Files + Print + Eprint),
     name: &str,
+    bytes: &mut [u8],
     lines: F,
 ) -> io::Result<()>
     requires { F.IsAlwaysCallable lines }
 {
-    let mut bytes = [0u8; 2048];
-    match load_hex(rt, name, &mut bytes)? {
+    match load_hex(rt, name, bytes)? {
         Some(size) => lines(&bytes[..size]),
         None => Ok(()),
     }

@@ -24,7 +24,8 @@ use Rattle.table.specs.RowIndex.{row_index, row_index32, row_id, row_of, IndexSo
 use Rattle.table.proofs.ContextLaws.{table_exactly}
 use Rattle.table.proofs.IndexLaws.{table_on, column_on, column_refused}
 use Rattle.table.proofs.SaidLaws.{column_past, column_there}
-use Rattle.table.proofs.RowLaws.{refusal_in, row_answered_exactly, row_scan_holds}
+use Rattle.table.proofs.RowLaws.{row_answered_exactly, row_scan_holds}
+use Rattle.refusal.proofs.OrderLaws.{refusal_in}
 use Rattle.cells.specs.declared.Cell.TheVariants as cell
 use Rattle.cells.specs.Rows.{Held, rows_named, row_bytes, rows_test, row_count, row_at, count_of}
 use Rattle.cells.specs.Cells.{cell_at, cell_of}
@@ -130,8 +131,8 @@ module _ (block rows : List ℕ) where
         ∙ cell_own block rows t.table ((rows_exactly block rows).1 (t.table, t.held)) row t.there i h)
 
 -- answered or absent, and no refusal
-not_refused : (c : Result (Option Cell) Refusal) → (refuses (cell_means c) ≡ false) ↔ (tried.refusal_in c ≡ Ok tt)
-unfolding refuses cell_means refusal_means tried.refusal_in
+not_refused : (c : Result (Option Cell) Refusal) → (refuses (cell_means c) ≡ false) ↔ (refusal_in c ≡ Ok tt)
+unfolding refuses cell_means refusal_means refusal_in
 not_refused (Ok (Some (cell.Number value))) = ((λ e. refl), (λ e. refl))
 not_refused (Ok (Some cell.Empty)) = ((λ e. refl), (λ e. refl))
 not_refused (Ok (Some (cell.Item item))) = ((λ e. refl), (λ e. refl))

@@ -52,7 +52,8 @@ use Rattle.property.specs.Lookup.{property_from, property_rules}
 use Rattle.property.specs.Lookup as lookup
 use Rattle.property.specs.Scan.{PropertiesSound, id_of, property_records}
 use Rattle.property.proofs.ContextLaws.{context_exactly}
-use Rattle.property.proofs.TriedLaws.{refusal_in, property_answered_exactly}
+use Rattle.property.proofs.TriedLaws.{property_answered_exactly}
+use Rattle.refusal.proofs.OrderLaws.{refusal_in}
 use Rattle.property.proofs.ScanLaws.{scan_holds}
 use Rattle.pst.specs.Meaning.{answered, refuses, refusal_means, verdict_means, header_means, block_means, sized_means, data_means, span_means, property_means}
 use Rattle.pst.specs.Outcomes.{header_outcome, nodes_outcome, blocks_outcome, block_outcome, test_outcome, read_outcome, read_buffer, data_outcome, data_buffer, encode_buffer, decode_buffer, heap_outcome, test_item_outcome, item_outcome, span_outcome, property_outcome}

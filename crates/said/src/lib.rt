@@ -25,11 +25,25 @@ impl fmt::Display for Unread {
     }
 }
 
-// How many bytes the file has; it is then read from its start.
-fn length_of(file: &mut impl Seek) -> io::Result<u64> {
-    let length = file.seek(SeekFrom::End(0))?;
-    file.rewind()?;
-    Ok(length)
+// How many bytes the file has, 0 where that cannot be told. It is then read from its start.
+fn length_of(file: &mut impl Seek) -> u64 {
+    let end = file.seek(SeekFrom::End(0));
+    let _ = file.rewind();
+    end.unwrap_or(0)
+}
+
+// Reads until the buffer is full, the input ends or a read fails: how many bytes stand at the buffer's front.
+fn read_full(file: &mut impl Read, buffer: &mut [u8]) -> usize
+    ensures { IsPrefixLen result buffer.new }
+{
+    let mut done: usize = 0;
+    while done < buffer.len() {
+        match file.read(&mut buffer[done..]) {
+            Ok(0) | Err(_) => return done,
+            Ok(n) => done += n,
+        }
+    }
+    done
 }
 
 // How many bytes stand at the buffer's front, which are all of the file. Nothing of a longer file is read.
@@ -37,13 +51,14 @@ fn read_whole(file: &mut (impl Read + Seek), buffer: &mut [u8]) -> Result<usize,
     ensures loaded { IfOk result (λ size. IsPrefixLen size buffer.new) }
     ensures kept { length buffer.new ≡ length buffer.old }
 {
-    let length = length_of(file).map_err(|_| Unread::CutOff)?;
+    let length = length_of(file);
     if length > buffer.len() as u64 {
         return Err(Unread::Over(buffer.len()));
     }
-    let size = length as usize;
-    file.read_exact(&mut buffer[..size])
-        .map_err(|_| Unread::CutOff)?;
+    let size = read_full(file, buffer);
+    if size as u64 != length {
+        return Err(Unread::CutOff);
+    }
     Ok(size)
 }
 
@@ -74,17 +89,17 @@ pub fn load(
     }
 }
 
-// Hands on the bytes of a file of the program's folder, which has at most 65,536; where it is not read, why not
-// is said, and nothing is handed on.
+// Hands on the bytes of a file of the program's folder, by way of the buffer; where it is not read, why not is
+// said, and nothing is handed on.
 pub fn with_file<F: FnOnce(&[u8]) -> io::Result<()>>(
     rt: &(impl Files + Print + Eprint),
     path: &str,
+    buffer: &mut [u8],
     lines: F,
 ) -> io::Result<()>
     requires { F.IsAlwaysCallable lines }
 {
-    let mut buffer = [0u8; 65536];
-    match load(rt, path, &mut buffer)? {
+    match load(rt, path, buffer)? {
         Some(size) => lines(&buffer[..size]),
         None => Ok(()),
     }

@@ -17,7 +17,9 @@ pub fn header_lines(
     section: &str,
     name: &str,
 ) -> io::Result<()> {
-    listed::with_hex(rt, name, |header| header_line(rt, section, header))
+    listed::with_hex(rt, name, &mut [0u8; 564], |header| {
+        header_line(rt, section, header)
+    })
 }
 
 // The bytes of a number that stands at `place`, where it does.
@@ -106,7 +108,7 @@ pub fn page_lines(
     let Some(signature) = end.checked_add(2) else {
         return Ok(());
     };
-    listed::with_hex(rt, name, |page| {
+    listed::with_hex(rt, name, &mut [0u8; 512], |page| {
         checksum_line(rt, section, page, end, checksum)?;
         signature_line(rt, section, page, signature, reference)
     })

@@ -180,9 +180,7 @@ pub fn image_lines(
     nodes: &[u64],
     blocks: &[u64],
 ) -> io::Result<()> {
-    said::with_file(
-        rt,
-        name,
-        |image| tree_lines(rt, section, image, nodes, blocks),
-    )
+    said::with_file(rt, name, &mut [0u8; 65536], |image| {
+        tree_lines(rt, section, image, nodes, blocks)
+    })
 }

@@ -81,9 +81,14 @@ fn table(rt: &impl Print, block: &[u8]) -> io::Result<()> {
 }
 
 pub fn store_heap(rt: &(impl Files + Print + Eprint)) -> io::Result<()> {
-    listed::with_hex(rt, "3.8_heap_pc.hex", |block| store(rt, block))
+    listed::with_hex(
+        rt,
+        "3.8_heap_pc.hex",
+        &mut [0u8; 512],
+        |block| store(rt, block),
+    )
 }
 
 pub fn table_heap(rt: &(impl Files + Print + Eprint)) -> io::Result<()> {
-    listed::with_hex(rt, "3.11_tc.hex", |block| table(rt, block))
+    listed::with_hex(rt, "3.11_tc.hex", &mut [0u8; 512], |block| table(rt, block))
 }

@@ -106,7 +106,9 @@ fn coding_lines(rt: &impl Print, text: &[u8]) -> io::Result<()> {
 }
 
 fn coding_vectors(rt: &(impl Files + Print + Eprint)) -> io::Result<()> {
-    said::with_file(rt, "5.2_cyclic_vectors.txt", |text| coding_lines(rt, text))
+    said::with_file(rt, "5.2_cyclic_vectors.txt", &mut [0u8; 4096], |text| {
+        coding_lines(rt, text)
+    })
 }
 
 fn main(rt: HostRuntime) -> io::Result<()> {

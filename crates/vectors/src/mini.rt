@@ -19,7 +19,7 @@ fn image_lines(rt: &(impl Files + Print + Eprint), name: &str) -> io::Result<()>
 }
 
 fn whole_file_line(rt: &(impl Files + Print + Eprint), name: &str) -> io::Result<()> {
-    said::with_file(rt, name, |image| {
+    said::with_file(rt, name, &mut [0u8; 65536], |image| {
         shown::pages::header_line(rt, "mini as cut", image)
     })
 }

@@ -6,7 +6,7 @@ use std::io;
 use std::rt::Files;
 
 fn header_checksums(rt: &(impl Files + Print + Eprint)) -> io::Result<()> {
-    listed::with_hex(rt, "3.2_header.hex", |header| {
+    listed::with_hex(rt, "3.2_header.hex", &mut [0u8; 564], |header| {
         pages::header_line(rt, "3.2", header)?;
         pages::header_sum_line(rt, "3.2", header, 471, 4)?;
         pages::header_sum_line(rt, "3.2", header, 516, 524)
@@ -36,7 +36,7 @@ fn block_lines(
     reference: Reference,
 ) -> io::Result<()> {
     pages::room_line(rt, section, data, pst::room)?;
-    listed::with_hex(rt, name, |room| {
+    listed::with_hex(rt, name, &mut [0u8; 448], |room| {
         trailer_lines(rt, section, room, data as usize, reference)
     })
 }

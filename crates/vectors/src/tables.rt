@@ -42,5 +42,7 @@ fn all_lines(rt: &impl Print, text: &[u8]) -> io::Result<()> {
 }
 
 pub fn table_lines(rt: &(impl Files + Print + Eprint)) -> io::Result<()> {
-    said::with_file(rt, "5.3_tables.txt", |text| all_lines(rt, text))
+    said::with_file(rt, "5.3_tables.txt", &mut [0u8; 65536], |text| {
+        all_lines(rt, text)
+    })
 }
