@@ -156,6 +156,16 @@ pub fn is_internal(block: u64) -> bool
     block / 2 % 2 == 1
 }
 
+// Copies the bytes; both are of one length. The library's method would ask the C library for memmove.
+fn copy(out: &mut [u8], bytes: &[u8])
+    requires { length out.old ≡ length bytes.now }
+    ensures { out.new ≡ bytes.now }
+{
+    for (i, byte) in bytes.iter().enumerate() {
+        out[i] = *byte;
+    }
+}
+
 // The bytes of a block, in place: decoded by the method unless the block is internal.
 fn make_plain(method: u8, block: u64, bytes: &mut [u8])
     ensures { bytes.new ≡ plain method block bytes.old }
@@ -172,7 +182,7 @@ fn decode_into(method: u8, block: u64, bytes: &[u8], out: &mut [u8])
     ensures { out.new ≡ fronted (plain method block bytes.now) out.old }
 {
     let n = bytes.len();
-    out[0..n].copy_from_slice(bytes);
+    copy(&mut out[0..n], bytes);
     make_plain(method, block, &mut out[0..n]);
 }
 

@@ -6,5 +6,5 @@ use Rattle.block.proofs.decode_into.Goals as goal
 pub returns : goal.returns
 returns c =
     let a = c.args in
-    front (plain a.method a.block) a.bytes.now a.out.now c.copy_from_slice.new.self c.make_plain.new.bytes c.copy_from_slice.ensures.after
+    front (plain a.method a.block) a.bytes.now a.out.now c.copy.new.out c.make_plain.new.bytes c.copy.ensures
     (plain_length a.method a.block a.bytes.now) c.make_plain.ensures
