@@ -99,11 +99,17 @@ pub fn column_at(table: &[u8], i: usize) -> Column
     }
 }
 
+// The comparisons are joined by `|`, so that the compiler takes several columns at a time.
 #[tactic(auto, unfolding(crate::specs::Columns::reference))]
 fn is_reference(code: u32) -> bool
     ensures { result ≡ reference code }
 {
-    matches!(code, 0x1F | 0x1E | 0x102 | 0x0D | 0x48) || code / 4096 % 2 == 1
+    (code == 0x1F)
+        | (code == 0x1E)
+        | (code == 0x102)
+        | (code == 0x0D)
+        | (code == 0x48)
+        | (code / 4096 % 2 == 1)
 }
 
 // Whether the column's cells hold what names their values, and not the values themselves.
