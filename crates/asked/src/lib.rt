@@ -8,13 +8,15 @@ mod lists;
 mod nodes;
 mod text;
 
+use std::convert::AsSlice;
 use std::io;
 use std::rt::Files;
 use text::Summed;
 
-fn all_lines(rt: &impl Print, name: &str, image: &[u8]) -> io::Result<()> {
+fn all_lines(rt: &impl Print, name: &[u8], image: &[u8]) -> io::Result<()> {
     let mut out = [0u8; 65536];
-    println!(rt; "{name}: {}", Summed(image))?;
+    rt.write_all(name)?;
+    println!(rt; ": {}", Summed(image))?;
     answers::whole_lines(rt, image)?;
     nodes::list_nodes(rt, image, &mut out)?;
     lists::list_lines(rt, image)?;
@@ -22,7 +24,11 @@ fn all_lines(rt: &impl Print, name: &str, image: &[u8]) -> io::Result<()> {
 }
 
 // An image in a file.
-pub fn image_lines(rt: &(impl Files + Print + Eprint), name: &str) -> io::Result<()> {
+pub fn image_lines(
+    rt: &(impl Files + Print + Eprint),
+    name: impl AsSlice<u8> + Drop,
+) -> io::Result<()> {
+    let name = name.as_slice();
     said::with_file(rt, name, &mut [0u8; 65536], |image| {
         all_lines(rt, name, image)
     })

@@ -3,13 +3,16 @@
 
 ghost use Rattle.std.specs.Counts.{IsPrefixLen};
 ghost use Rattle.std.specs.Iterator.{at_most};
-ghost use Rattle.std.specs.Prelude.{◌≡◌, ◌≤◌, length, IfOk, IfSome, OnErr};
+ghost use Rattle.std.specs.Prelude.{◌≡◌, ◌≤◌, ◌<◌, length, IfOk, IfSome, OnErr};
 
+use std::convert::AsSlice;
 use std::rt::Files;
 use std::{fmt, io};
 
 // What a hexadecimal digit in lower case stands for.
-fn digit(character: u8) -> Option<u8> {
+fn digit(character: u8) -> Option<u8>
+    ensures { IfSome result (λ d. d < 16) }
+{
     match character {
         b'0'..=b'9' => Some(character - b'0'),
         b'a'..=b'f' => Some(character - b'a' + 10),
@@ -38,7 +41,7 @@ pub fn unhex(text: &[u8], out: &mut [u8]) -> usize
 // The bytes that a file of digits stands for, at the front of `out`: how many.
 pub fn load_hex(
     rt: &(impl Files + Print + Eprint),
-    name: &str,
+    name: impl AsSlice<u8> + Drop,
     out: &mut [u8],
 ) -> io::Result<Option<usize>>
     ensures loaded { IfOk result (λ loaded. IfSome loaded (λ size. IsPrefixLen size out.new)) }
@@ -55,7 +58,7 @@ pub fn load_hex(
 // said, and nothing is handed on.
 pub fn with_hex<F: FnOnce(&[u8]) -> io::Result<()>>(
     rt: &(impl Files + Print + Eprint),
-    name: &str,
+    name: impl AsSlice<u8> + Drop,
     bytes: &mut [u8],
     lines: F,
 ) -> io::Result<()>
@@ -114,6 +117,8 @@ impl<'a> Iterator for Words<'a> {
 
     fn next(&mut self) -> Option<&'a [u8]> {
         let text = from_word(self.rest);
+        // What was passed over is not gone through again, behind the last word neither.
+        self.rest = text;
         let (_, behind) = text.split_first()?;
         let end = behind
             .iter()

@@ -5,6 +5,7 @@ ghost use Rattle.std.specs.Counts.{IsPrefixLen};
 ghost use Rattle.std.specs.Prelude.{◌≡◌, length, IfOk, IfSome};
 
 use refusal::Refusal;
+use std::convert::AsSlice;
 use std::io::{Read, Seek, SeekFrom};
 use std::rt::Files;
 use std::{fmt, fs, io};
@@ -63,27 +64,32 @@ fn read_whole(file: &mut (impl Read + Seek), buffer: &mut [u8]) -> Result<usize,
 }
 
 // Reads a file of the program's folder: how many bytes of it, all of them, stand at the buffer's front. Where it
-// does not, it says why. An error is one of printing; it leaves a buffer of the same length, whose bytes may be
-// those read so far.
+// does not, as where the path is no text, it says why. An error is one of printing; it leaves a buffer of the same
+// length, whose bytes may be those read so far.
 pub fn load(
     rt: &(impl Files + Print + Eprint),
-    path: &str,
+    path: impl AsSlice<u8> + Drop,
     buffer: &mut [u8],
 ) -> io::Result<Option<usize>>
     ensures loaded { IfOk result (λ loaded. IfSome loaded (λ size. IsPrefixLen size buffer.new)) }
     ensures kept { length buffer.new ≡ length buffer.old }
 {
-    let mut file = match fs::open(rt, path) {
+    let path = path.as_slice();
+    let Ok(name) = str::from_utf8(path) else {
+        eprintln!(rt; "{}: the name is no text", path.escape_ascii())?;
+        return Ok(None);
+    };
+    let mut file = match fs::open(rt, name) {
         Ok(file) => file,
         Err(error) => {
-            eprintln!(rt; "{path}: {error}")?;
+            eprintln!(rt; "{name}: {error}")?;
             return Ok(None);
         }
     };
     match read_whole(&mut file, buffer) {
         Ok(size) => Ok(Some(size)),
         Err(unread) => {
-            println!(rt; "{path}: {unread}")?;
+            println!(rt; "{name}: {unread}")?;
             Ok(None)
         }
     }
@@ -93,7 +99,7 @@ pub fn load(
 // said, and nothing is handed on.
 pub fn with_file<F: FnOnce(&[u8]) -> io::Result<()>>(
     rt: &(impl Files + Print + Eprint),
-    path: &str,
+    path: impl AsSlice<u8> + Drop,
     buffer: &mut [u8],
     lines: F,
 ) -> io::Result<()>

@@ -1,6 +1,7 @@
 // The two trees of an image: their checks, entries looked up by their numbers, and the entries listed.
 use refusal::Refusal;
 use said::{Answer, Refused};
+use std::convert::AsSlice;
 use std::rt::Files;
 use std::{fmt, io};
 use tree::{Found, Listed, Node};
@@ -103,19 +104,20 @@ pub fn go_through<
 
 fn found_line<T: Entry + Copy>(
     rt: &impl Print,
-    section: &str,
+    section: &[u8],
     call: &str,
     number: u64,
     found: Result<Found<T>, Refusal>,
 ) -> io::Result<()> {
     let found = found.map(FoundWords).map_err(Refused);
-    println!(rt; "{section} {call} {number:x}: {}", Answer(found))
+    rt.write_all(section)?;
+    println!(rt; " {call} {number:x}: {}", Answer(found))
 }
 
 // One call on each number, and one on each entry in turn.
 fn lookup_lines<T: Entry + Copy, F: Fn(u64) -> Result<Found<T>, Refusal>>(
     rt: &impl Print,
-    section: &str,
+    section: &[u8],
     call: &str,
     numbers: &[u64],
     find: F,
@@ -130,7 +132,7 @@ fn lookup_lines<T: Entry + Copy, F: Fn(u64) -> Result<Found<T>, Refusal>>(
 
 fn list_lines<T: Entry + Copy, F: Fn(u64) -> Result<Found<T>, Refusal>>(
     rt: &impl Print,
-    section: &str,
+    section: &[u8],
     call: &str,
     next: F,
 ) -> io::Result<()>
@@ -142,16 +144,18 @@ fn list_lines<T: Entry + Copy, F: Fn(u64) -> Result<Found<T>, Refusal>>(
     )
 }
 
-fn check_lines(rt: &impl Print, section: &str, image: &[u8]) -> io::Result<()> {
+fn check_lines(rt: &impl Print, section: &[u8], image: &[u8]) -> io::Result<()> {
     let nodes = crate::verdict(pst::check_nodes(image));
-    println!(rt; "{section} check_nodes: {nodes}")?;
+    rt.write_all(section)?;
+    println!(rt; " check_nodes: {nodes}")?;
     let blocks = crate::verdict(pst::check_blocks(image));
-    println!(rt; "{section} check_blocks: {blocks}")
+    rt.write_all(section)?;
+    println!(rt; " check_blocks: {blocks}")
 }
 
 fn tree_lines(
     rt: &impl Print,
-    section: &str,
+    section: &[u8],
     image: &[u8],
     nodes: &[u64],
     blocks: &[u64],
@@ -175,11 +179,12 @@ fn tree_lines(
 // An image in a file, in which these nodes and blocks are looked up.
 pub fn image_lines(
     rt: &(impl Files + Print + Eprint),
-    section: &str,
-    name: &str,
+    section: impl AsSlice<u8> + Drop,
+    name: impl AsSlice<u8> + Drop,
     nodes: &[u64],
     blocks: &[u64],
 ) -> io::Result<()> {
+    let section = section.as_slice();
     said::with_file(rt, name, &mut [0u8; 65536], |image| {
         tree_lines(rt, section, image, nodes, blocks)
     })

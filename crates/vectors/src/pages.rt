@@ -35,7 +35,7 @@ fn block_lines(
     data: u32,
     reference: Reference,
 ) -> io::Result<()> {
-    pages::room_line(rt, section, data, pst::room)?;
+    pages::room_line(rt, section, data, pst::room(data))?;
     listed::with_hex(rt, name, &mut [0u8; 448], |room| {
         trailer_lines(rt, section, room, data as usize, reference)
     })
@@ -73,8 +73,8 @@ pub fn worked_pages(rt: &(impl Files + Print + Eprint)) -> io::Result<()> {
         offset: 0x994D40,
     };
     block_lines(rt, "3.7", "3.7_slblock.hex", 32, slblock)?;
-    pages::room_line(rt, "3.13", 4092, pst::room)?;
-    pages::room_line(rt, "3.13", 1272, pst::room)?;
+    pages::room_line(rt, "3.13", 4092, pst::room(4092))?;
+    pages::room_line(rt, "3.13", 1272, pst::room(1272))?;
     let block = Reference {
         number: 0x1518,
         offset: 0x908A00,

@@ -149,8 +149,8 @@ fn real_images(rt: &(impl Files + Print + Eprint)) -> io::Result<()> {
 
 // The file's data tree of two children, which is dumped without its trailer, and its largest listed block.
 fn rooms(rt: &impl Print) -> io::Result<()> {
-    pages::room_line(rt, "32-bit", 16, pst::room32)?;
-    pages::room_line(rt, "32-bit", 8180, pst::room32)
+    pages::room_line(rt, "32-bit", 16, pst::room32(16))?;
+    pages::room_line(rt, "32-bit", 8180, pst::room32(8180))
 }
 
 fn main(rt: HostRuntime) -> io::Result<()> {
