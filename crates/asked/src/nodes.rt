@@ -1,4 +1,7 @@
 // The node tree, listed from its first node on, and each node's data.
+ghost use Rattle.pst.specs.Outcomes.{data_buffer};
+ghost use Rattle.std.specs.Prelude.{◌≡◌, length, take, IfOk};
+
 use crate::text::{Summed, front};
 use crate::{answers, heaps};
 use shown::trees::{go_through, number_found};
@@ -10,7 +13,9 @@ fn read_line<'a>(
     image: &[u8],
     node: u64,
     out: &'a mut [u8],
-) -> io::Result<&'a [u8]> {
+) -> io::Result<&'a [u8]>
+    ensures { IfOk result (λ bytes. bytes.now ≡ take (length bytes.now) (data_buffer image.now node out.old)) }
+{
     print!(rt; "read_node {node:x}: ")?;
     let read = pst::read_node(image, node, out);
     let data = front(read.ok().flatten().unwrap_or(0), out);

@@ -1,4 +1,6 @@
 // Bytes in lines of output, and the front of a buffer.
+ghost use Rattle.std.specs.Prelude.{◌≡◌, take};
+
 use std::fmt;
 
 // How many bytes there are, and their checksum.
@@ -14,6 +16,8 @@ impl fmt::Display for Summed<'_> {
 }
 
 // So many bytes of the buffer as a call answers, and at most all.
-pub fn front(size: u64, buffer: &[u8]) -> &[u8] {
+pub fn front(size: u64, buffer: &[u8]) -> &[u8]
+    ensures { result.now ≡ take size buffer.now }
+{
     &buffer[..buffer.len().min(size as usize)]
 }
