@@ -176,27 +176,30 @@ const NEWER_BOUND_IMAGES: [&str; 2] = [
     "111-bits64-refusal-7-otheredition.img",
 ];
 
-fn lines(rt: &(impl Files + Print + Eprint), names: &[&str]) -> io::Result<()> {
-    for name in names {
-        asked::image_lines(rt, name)?;
+const IMAGES: [&[&str]; 15] = [
+    &VALID_IMAGES,
+    &HEADER_IMAGES,
+    &PAGE_IMAGES,
+    &DATA_IMAGES,
+    &BIT_ZERO_IMAGES,
+    &KEY_IMAGES,
+    &LIST_IMAGES,
+    &END_IMAGES,
+    &OLDER_IMAGES,
+    &OLDER_HEADER_IMAGES,
+    &OLDER_PAGE_IMAGES,
+    &OLDER_DATA_IMAGES,
+    &OLDER_REQUEST_IMAGES,
+    &OLDER_BOUND_IMAGES,
+    &NEWER_BOUND_IMAGES,
+];
+
+// The call stands once, so that the buffer for an image stands on the stack once.
+fn main(rt: HostRuntime) -> io::Result<()> {
+    for names in IMAGES {
+        for name in names {
+            asked::image_lines(&rt, name)?;
+        }
     }
     Ok(())
-}
-
-fn main(rt: HostRuntime) -> io::Result<()> {
-    lines(&rt, &VALID_IMAGES)?;
-    lines(&rt, &HEADER_IMAGES)?;
-    lines(&rt, &PAGE_IMAGES)?;
-    lines(&rt, &DATA_IMAGES)?;
-    lines(&rt, &BIT_ZERO_IMAGES)?;
-    lines(&rt, &KEY_IMAGES)?;
-    lines(&rt, &LIST_IMAGES)?;
-    lines(&rt, &END_IMAGES)?;
-    lines(&rt, &OLDER_IMAGES)?;
-    lines(&rt, &OLDER_HEADER_IMAGES)?;
-    lines(&rt, &OLDER_PAGE_IMAGES)?;
-    lines(&rt, &OLDER_DATA_IMAGES)?;
-    lines(&rt, &OLDER_REQUEST_IMAGES)?;
-    lines(&rt, &OLDER_BOUND_IMAGES)?;
-    lines(&rt, &NEWER_BOUND_IMAGES)
 }
