@@ -1,7 +1,12 @@
 -- What the coded bytes are by each method, and what a method's test answers. Assumes nothing.
-use Rattle.std.proofs.Common.{◌≡◌, ℕ, suc, ◌+◌, ◌%◌, Bool, true, false, cond, eqb, List, [], ◌∷◌, map, length, refl, ap, arith, eq-eqb, ne_eqb}
+use Rattle.std.proofs.Common.{◌≡◌, ℕ, suc, ◌+◌, ◌%◌, ◌<◌, ◌≤◌, Bool, true, false, cond, eqb, List, [], ◌∷◌, map, length, refl, ap, arith, eq-eqb, ne_eqb, le-leb}
 use lib.ListN.{length-map}
-use Rattle.coding.specs.Coding.{cyclic, word, coded}
+use borrow.Author.Tests.{lt-leb}
+use Rattle.std.specs.Prelude.{Ok, Err}
+use Rattle.refusal.specs.declared.Fault.TheVariants.{Encoding}
+use Rattle.refusal.specs.Order.{◌at◌}
+use Rattle.refusal.proofs.OrderLaws.{passes, breaks}
+use Rattle.coding.specs.Coding.{cyclic, word, coded, method_fits}
 
 module _ (f : ℕ → ℕ) (method block : ℕ) (s : List ℕ) where
   pub coded_permute : method ≡ 1 → coded f method block s ≡ map f s
@@ -15,6 +20,14 @@ module _ (f : ℕ → ℕ) (method block : ℕ) (s : List ℕ) where
   pub coded_none : (method ≡ 1 → ⊥) → (method ≡ 2 → ⊥) → coded f method block s ≡ s
   unfolding coded
   coded_none h k = simp (ne_eqb method 1 h, ne_eqb method 2 k)
+
+pub method_fits_lem : (method : ℕ) → method ≤ 2 → method_fits method ≡ Ok tt
+unfolding method_fits
+method_fits_lem method h = passes _ _ (le-leb method 2 h)
+
+pub method_refused : (method : ℕ) → 2 < method → method_fits method ≡ Err (Encoding at 0)
+unfolding method_fits
+method_refused method h = breaks _ _ (lt-leb method 2 h)
 
 -- encoding and decoding keep the length
 cyclic_length : (w : ℕ) (s : List ℕ) → length (cyclic w s) ≡ length s

@@ -21,7 +21,7 @@ use Rattle.laws.specs.Front.{fronted}
 use Rattle.block.specs.Block.{checked_block, internal, block_bytes}
 use Rattle.edition.specs.declared.Edition.{Edition}
 use Rattle.edition.specs.declared.RootBlock.{RootBlock}
-use Rattle.node.specs.Steps.{measured_in, AllListed, bytes_at}
+use Rattle.node.specs.Steps.{measured_in, gone_read, AllListed, bytes_at}
 use Rattle.node.proofs.Kids.{kids_in, sum_of, fault_of, listing_of, all_listed, joined_blocks, joined_length}
 use Rattle.node.specs.Content.{Content, bytes, absent, refused, count_in, numbers_from, numbers_in, none_internal, shape_fits, Kids, all, fault, kids_of, total, gathered, tree_content, block_content, checked_content, data_of, found_content, node_content, answer_to, filled_by}
 use Rattle.std.specs.Prelude.{Option, Some, None, Result, Ok, Err}
@@ -187,8 +187,15 @@ module _ (E : Edition) (image : List ℕ) (number : ℕ) where
   unfolding node_content found_content
   node_refused r e = ap (found_content E image) e
 
--- a lookup that found no node
-pub gone_outcome : (E : Edition) (image : List ℕ) (number : ℕ) (f : Found Node) (out : List ℕ) → Ok f ≡ node_of E.nodes image number → ((n : Node) (pages : ℕ) → f ≡ Entry n pages → ⊥)
+-- a lookup that is accepted and found no node
+pub absence_outcome : (E : Edition) (image : List ℕ) (number : ℕ) (f : Found Node) (out : List ℕ) → Ok f ≡ node_of E.nodes image number → ((n : Node) (pages : ℕ) → f ≡ Entry n pages → ⊥)
     → Outcome (node_content E image number) out (Ok None) out
-gone_outcome E image number (Entry n pages) out e k = absurd (k n pages refl)
-gone_outcome E image number (Absent pages) out e k = outcome_of absent _ out _ out (node_absent E image number pages (sym e)) (absent_outcome out)
+absence_outcome E image number (Entry n pages) out e k = absurd (k n pages refl)
+absence_outcome E image number (Absent pages) out e k = outcome_of absent _ out _ out (node_absent E image number pages (sym e)) (absent_outcome out)
+
+-- a lookup that did not find the node
+pub gone_outcome : (E : Edition) (image : List ℕ) (number : ℕ) (f : Result (Found Node) Refusal) (out : List ℕ) → f ≡ node_of E.nodes image number → ((n : Node) (pages : ℕ) → f ≡ Ok (Entry n pages) → ⊥)
+    → Outcome (node_content E image number) out (gone_read f) out
+unfolding gone_read
+gone_outcome E image number (Ok f) out e k = absence_outcome E image number f out e (λ n pages g. k n pages (ap Ok g))
+gone_outcome E image number (Err r) out e k = outcome_of (refused r) _ out _ out (node_refused E image number r (sym e)) (refused_outcome r out)

@@ -1,7 +1,9 @@
 -- What the steps of a node read come to. Assumes nothing: these are definitions.
-use Rattle.std.specs.Prelude.{ℕ, ◌≡◌, List, [], Result, Ok, Err}
+use Rattle.std.specs.Prelude.{ℕ, ◌≡◌, List, [], Option, None, Result, Ok, Err}
 use Rattle.keys.specs.Plain.{All}
+use Rattle.tree.specs.declared.Found.{Found}
 use Rattle.tree.specs.declared.Listed.{Listed}
+use Rattle.tree.specs.declared.Node.{Node}
 use Rattle.block.specs.Block.{checked_block, block_bytes}
 use Rattle.edition.specs.declared.Edition.{Edition}
 use Rattle.node.specs.Content.{Kids, all, fault, total}
@@ -27,3 +29,8 @@ bytes_in image (Err r) = []
 
 unfoldable pub bytes_at : Edition → List ℕ → ℕ → List ℕ
 bytes_at E image n = bytes_in image (checked_block E image n)
+
+-- what a read answers where the lookup found no node
+unfoldable pub gone_read : Result (Found Node) Refusal → Result (Option ℕ) Refusal
+gone_read (Ok f) = Ok None
+gone_read (Err r) = Err r

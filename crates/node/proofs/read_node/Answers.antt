@@ -1,6 +1,6 @@
 use Rattle.std.proofs.Common.{◌≡◌, sym, ap, ◌∙◌, Ok, Err}
 use Rattle.tree.proofs.Steps.{node_header}
-use Rattle.node.proofs.Outcomes.{outcome_of, node_found, node_refused, refused_outcome, gone_outcome}
+use Rattle.node.proofs.Outcomes.{outcome_of, node_found, node_refused, refused_outcome, absence_outcome}
 use borrow.Author.Rules.{rules}
 use Rattle.tree.specs.Answers.{node_of, found_as}
 use Rattle.node.proofs.read_node.Goals as goal
@@ -17,7 +17,7 @@ pub returns-in_default : goal.returns-in_default
 unfolding node_of found_as
 returns-in_default c =
     let a = c.args in
-    let o = gone_outcome a.e a.image.now a.node _ a.out.now c.in_ok-listed.ensures c.in_default.not-Entry in
+    let o = absence_outcome a.e a.image.now a.node _ a.out.now c.in_ok-listed.ensures c.in_default.not-Entry in
     record { answer = o.0; buffer = o.1 }
 
 pub read_data-requires : goal.read_data-requires
