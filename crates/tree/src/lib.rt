@@ -325,7 +325,7 @@ fn seek(
     requires { FairLayout l × LevelIs l image.now level p × (level ≤ 255) × (pages + 512 * level ≤ 200000) }
     ensures { result ≡ shown l (counted pages (descend (page_tree l image.now) Sought.AtLeast key level p)) }
 {
-    verdict_on(image, l, p)?;
+    verdict_on(image, l, p)?; // The first refusal ends the listing, of whichever page.
     if level == 0 {
         return leaf_for(image, l, p, Sought::AtLeast, key, pages + 1);
     }
